@@ -1,0 +1,10 @@
+pub mod Numbers
+pub mod Cut
+pub mod Tails
+pub mod Lines
+pub mod Fixed
+pub mod Sound
+pub mod Complete
+pub mod Spelled
+pub mod Slices
+pub mod Same
