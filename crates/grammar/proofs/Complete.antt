@@ -56,7 +56,7 @@ parts-step d f s own c depth level n at id m body rest rows more small count sea
     (go-then (of-kind d (parts d f) (kind-at s id) depth level n at (at + suc (width s)) body) _ one
     (go-then (parts d f s own (c - 1) depth level n (at + suc (width s) + length body) rest) _ others refl))))
 
-is-nowhere : (s : Spot) → closed s ≡ true → s ≡ Nowhere
+pub is-nowhere : (s : Spot) → closed s ≡ true → s ≡ Nowhere
 is-nowhere Descriptions h = cc
 is-nowhere Node h = cc
 is-nowhere Reference h = cc

@@ -8,3 +8,5 @@ pub mod Complete
 pub mod Spelled
 pub mod Slices
 pub mod Same
+pub mod Steps
+pub mod Walked

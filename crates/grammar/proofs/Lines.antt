@@ -22,11 +22,11 @@ use Rattle.grammar.specs.Theorems.{Stands-at, Found-by-line, Found-by-id, Fixe
 use borrow.Author.Tests.{ltb-false, eqb-false}
 use Rattle.grammar.proofs.Cut.{by-cases}
 
-both-left : (a b : Bool) → T (a && b) → T a
+pub both-left : (a b : Bool) → T (a && b) → T a
 both-left true b t = tt
 both-left false b t = t
 
-both-right : (a b : Bool) → T (a && b) → T b
+pub both-right : (a b : Bool) → T (a && b) → T b
 both-right true b t = t
 both-right false b t = absurd t
 

@@ -160,7 +160,7 @@ closed-of Modes c h = h
 closed-of Associated c h = sym c
 closed-of Nowhere c h = refl
 
-associated-of : (s : Spot) → counted s ≡ true → s ≡ Associated
+pub associated-of : (s : Spot) → counted s ≡ true → s ≡ Associated
 associated-of Descriptions h = cc
 associated-of Node h = cc
 associated-of Reference h = cc
@@ -169,7 +169,7 @@ associated-of Modes h = cc
 associated-of Associated h = refl
 associated-of Nowhere h = cc
 
-count-of : (f : Fields) → is-count f ≡ true → f ≡ Count
+pub count-of : (f : Fields) → is-count f ≡ true → f ≡ Count
 count-of Nothing h = cc
 count-of Code h = cc
 count-of Text h = cc
@@ -179,7 +179,7 @@ count-of Count h = refl
 count-of Radius h = cc
 count-of Height h = cc
 
-width-some : (s : Spot) → 1 ≤ width s
+pub width-some : (s : Spot) → 1 ≤ width s
 width-some Descriptions = omega arith
 width-some Node = omega arith
 width-some Reference = omega arith
@@ -260,7 +260,7 @@ miscounted-some bs c i j h l = rw (slice-cons i j bs 0 h l)
 node-test : (x : ℕ) → not (eqb x 2) ≡ eqb (kind-at Associated x) 0
 node-test x = by-cases (eqb x 2) (λ q. rw (q, kind-at)) (λ q. rw (q, kind-at))
 
-node-kind : (x : ℕ) → not (eqb x 2) ≡ false → kind-at Associated x ≡ 1
+pub node-kind : (x : ℕ) → not (eqb x 2) ≡ false → kind-at Associated x ≡ 1
 node-kind x h = rw (not-false (eqb x 2) h, kind-at)
 
 module _ (bs : List ℕ) (d g : ℕ) (same : Same bs d g) where
@@ -324,7 +324,30 @@ all-same bs d zero =
     }
 all-same bs d (suc g) = record { plain = plain-step bs d g (all-same bs d g); counting = counting-step bs d g (all-same bs d g) }
 
-tops-same : (bs : List ℕ) (d g f : ℕ) (seen : Bool) (i : ℕ) → i ≤ length bs → length bs - i < g → length bs - i ≤ f
+-- More turns than are needed change nothing.
+module _ (bs : List ℕ) (d f g : ℕ) (i j : ℕ) (h : i ≤ j) (l : j ≤ length bs) where
+  pub tail-turns : (level : ℕ) (t : Spoken) → j - i ≤ f → j - i ≤ g → O.tail bs f level t i j ≡ O.tail bs g level t i j
+  tail-turns level t a b =
+      tail-same bs (suc (j - i)) f level t i j h l (omega arith) a ∙ sym (tail-same bs (suc (j - i)) g level t i j h l (omega arith) b)
+
+  pub parts-turns : (s : Spot) (depth level n : ℕ) → j - i ≤ f → j - i ≤ g → counted s ≡ false → (sealed s ≡ true → i ≡ j)
+      → O.parts bs d f s depth level n i j ≡ O.parts bs d g s depth level n i j
+  parts-turns s depth level n a b c e =
+      all-same bs d (suc (j - i)) .plain f s 0 0 depth level n i j h l (omega arith) a c e
+      ∙ sym (all-same bs d (suc (j - i)) .plain g s 0 0 depth level n i j h l (omega arith) b c e)
+
+  pub nodes-turns : (own c depth level n : ℕ) → j - i < f → j - i < g → O.nodes bs d f c depth level n own i j ≡ O.nodes bs d g c depth level n own i j
+  nodes-turns own c depth level n a b =
+      all-same bs d (suc (j - i)) .counting f own c depth level n i j h l (omega arith) a
+      ∙ sym (all-same bs d (suc (j - i)) .counting g own c depth level n i j h l (omega arith) b)
+
+  pub component-turns : (k depth level n at : ℕ) → j - i < f → j - i < g → O.component bs d f k depth level n at i j ≡ O.component bs d g k depth level n at i j
+  component-turns k depth level n at a b =
+      let same = all-same bs d (suc (j - i)) in
+      component-same′ bs d (suc (j - i)) same f k depth level n at i j h l (omega arith) a
+      ∙ sym (component-same′ bs d (suc (j - i)) same g k depth level n at i j h l (omega arith) b)
+
+pub tops-same : (bs : List ℕ) (d g f : ℕ) (seen : Bool) (i : ℕ) → i ≤ length bs → length bs - i < g → length bs - i ≤ f
     → O.tops bs d f seen i ≡ tops d g seen i (slice i (length bs) bs)
 tops-same bs d zero f seen i h a b = absurd (omega arith)
 tops-same bs d (suc g) zero seen i h a b = rw (slice-none bs i (length bs) (omega arith))

@@ -21,6 +21,9 @@ pub record Row : Type 0 where
   pub language : ℕ
   pub text : List ℕ
 
+abbrev pub Rows : Type 0
+Rows = List Row
+
 -- What follows a text in its component.
 pub data Tail : Type 0 where
   bare : Tail

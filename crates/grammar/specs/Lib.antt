@@ -3,5 +3,7 @@ pub mod Grammar
 pub mod Faults
 pub mod Reading
 pub mod Offsets
+pub mod Walk
+pub mod Checks
 pub mod Example
 pub mod Theorems

@@ -11,6 +11,7 @@ use Rattle.grammar.specs.Format.{width, layout, kind-at, fixed-bytes}
 use Rattle.grammar.specs.Grammar.{Row, Bytes, Tells, Legal}
 use Rattle.grammar.specs.Reading.{Read, reading}
 use Rattle.grammar.specs.Offsets as O
+use Rattle.grammar.specs.Walk.{told-from}
 
 -- kind k stands at s, by its line of the table
 abbrev pub Stands-at : ℕ → Spot → Type 0
@@ -57,3 +58,7 @@ Accepts-exactly = Sound × Complete × Refuses-rightly × Made-of-bytes × One-m
 -- the reading by offset gives the same rows, and the same faults at the same places
 abbrev pub Same-by-offset : Type 0
 Same-by-offset = (bytes : List ℕ) → O.reading bytes ≡ reading bytes
+
+-- the walk from mark to mark tells the rows that are read
+abbrev pub Walk-tells : Type 0
+Walk-tells = (bytes : List ℕ) (rows : List Row) → O.reading bytes ≡ Ok rows → told-from bytes ≡ rows

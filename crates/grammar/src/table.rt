@@ -3,6 +3,8 @@ ghost use mathlib.Core.Path.{_≡_};
 ghost use Prim.Native.Nat.{ℕ};
 ghost use lib.ListN.{getD};
 ghost use Rattle.grammar.specs.Format.{blank, layout, kind-at, width as width-at, some-kind};
+ghost use Rattle.grammar.specs.Offsets.{ends-there};
+ghost use Rattle.grammar.specs.Reading.{is-text, is-count};
 ghost use Rattle.grammar.specs.Theorems.{Table-rule};
 
 // Where a component stands. Each spot has identifiers of its own.
@@ -51,6 +53,11 @@ const BLANK: Layout = Layout {
     fixed: 0,
     inside: Spot::Nowhere,
 };
+
+// The descriptions are the container's component of this identifier; the container's components have lengths of this width.
+pub const DESCRIPTIONS: u8 = 1;
+
+pub const TOP_WIDTH: usize = 2;
 
 // The kinds by number; the lines of numbers that are no kind are blank.
 const KINDS: [Layout; 28] = [
@@ -272,6 +279,28 @@ pub fn layout_of(kind: u8) -> Layout
     ensures { λ r. ⌜ r ≡ layout kind ⌝ }
 {
     line_in(&KINDS, kind)
+}
+
+impl Layout {
+    pub fn is_text(self) -> bool
+        ensures { λ r. ⌜ r ≡ is-text (self .fields) ⌝ }
+    {
+        matches!(self.fields, Fields::Text)
+    }
+
+    // Whether what follows is exactly as many nodes as the fields count.
+    pub fn counts_nodes(self) -> bool
+        ensures { λ r. ⌜ r ≡ is-count (self .fields) ⌝ }
+    {
+        matches!(self.fields, Fields::Count)
+    }
+
+    // Whether nothing may follow the fixed fields.
+    pub fn ends_there(self) -> bool
+        ensures { λ r. ⌜ r ≡ ends-there self ⌝ }
+    {
+        matches!(self.inside, Spot::Nowhere) && !self.is_text()
+    }
 }
 
 impl Spot {

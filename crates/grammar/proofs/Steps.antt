@@ -1,0 +1,305 @@
+-- One step of each count of specs/Checks, for every way that a check can go.
+-- Assumes nothing.
+use mathlib.Core.Path.{_≡_, refl, sym, _∙_, ap, ap₂, subst}
+use mathlib.Core.List.{List, [], _∷_, _++_}
+use mathlib.Core.Bool.{Bool, true, false, not, _&&_, _||_}
+use Prim.Native.Nat.{ℕ, zero, suc, _+_, _-_, _*_, _<_, _≤_, _^_}
+use native.Mathlib.Omega.{arith}
+use lib.ListN.{length, getD, length-append}
+use lib.Dec.{T, eqb, ltb, leb}
+use borrow.Author.Tests.{ltb-true, ltb-false, lt-ltb, le-ltb, leb-true, leb-false, le-leb, lt-leb, eqb-true, eqb-false, eq-eqb, ne-eqb}
+use Rattle.std.specs.declared.result.Result.the-variants.{Ok, Err}
+use Rattle.std.specs.declared.option.Option.{Option}
+use Rattle.std.specs.declared.option.Option.the-variants.{Some, None}
+use Rattle.grammar.specs.declared.fault.ReadFault.{ReadFault}
+use Rattle.grammar.specs.declared.fault.ReadFault.the-variants.{TooLong, Empty, PastEnd, WrongSize, SecondDescriptions, SecondLanguage, OffGlobe, Miscounted, TooDeep}
+use Rattle.grammar.specs.declared.table.Spot.{Spot}
+use Rattle.grammar.specs.declared.table.Spot.the-variants.{Descriptions, Node, Reference, Place, Modes, Associated, Nowhere}
+use Rattle.grammar.specs.declared.table.Fields.{Fields}
+use Rattle.grammar.specs.declared.table.Fields.the-variants.{Nothing, Code, Text, Globe, Floor, Count, Radius, Height}
+use Rattle.grammar.specs.declared.table.Layout.{Layout}
+use Rattle.grammar.specs.Format.{width, layout, kind-at, some-kind}
+use Rattle.grammar.specs.Grammar.{Row, Rows, deeper}
+use Rattle.grammar.specs.Reading.{Read, then, if, Spoken, heard, is-text, is-count, closed, counted, sealed, reading}
+use Rattle.grammar.specs.Offsets as O
+use Rattle.grammar.specs.Checks.{many, plus, tail-of, parts-of, nodes-of, component-of, tops-of, fields-of, data-of, part-of}
+use Rattle.grammar.proofs.Cut.{by-cases, err-ok, ok-ok}
+use Rattle.grammar.proofs.Lines.{counts-agree, text-closed}
+use borrow.Author.Tests.{not-false}
+use Rattle.grammar.proofs.Sound.{text-of}
+use Rattle.grammar.proofs.Same.{count-of, tops-same, reading-same, tail-turns, parts-turns, nodes-turns, component-turns}
+
+-- what a header's end obeys
+pub ends-within : (bs : List ℕ) (w level at end to : ℕ) → O.ends bs w level at end ≡ Ok to → (at + suc w ≤ to) × (to ≤ end)
+ends-within bs w level at end to h =
+    by-cases (ltb end (at + suc w))
+    (λ q. absurd (err-ok (rw q at h)))
+    (λ q.
+    by-cases (ltb end (at + suc w + O.value bs (suc at) w))
+    (λ r. absurd (err-ok (rw (q, r) at h)))
+    (λ r.
+    let e : at + suc w + O.value bs (suc at) w ≡ to = ok-ok (rw (q, r) at h) in
+    let l = ltb-false end (at + suc w + O.value bs (suc at) w) r in
+    (omega arith, omega arith)))
+
+-- counting what two readings tell one after the other
+many-both : (r : Read Rows) (q : Read Rows) → many (then r (λ x. then q (λ y. Ok (x ++ y)))) ≡ then (many r) (λ m. plus m (many q))
+many-both (Ok x) (Ok y) = ap Ok (length-append x y)
+many-both (Ok x) (Err e) = refl
+many-both (Err e) q = refl
+
+-- a row and those inside it
+many-one : (r : Read Rows) (row : Row) → many (then r (λ x. Ok (row ∷ x))) ≡ plus 1 (many r)
+many-one (Ok x) row = ap Ok (omega arith)
+many-one (Err e) row = refl
+
+many-text : (r : Read Spoken) (row : Spoken → Row) → many (then r (λ l. Ok (row l ∷ []))) ≡ then r (λ _. Ok 1)
+many-text (Ok x) row = refl
+many-text (Err e) row = refl
+
+module _ (bs : List ℕ) (level at end : ℕ) where
+  pub tail-done : (l : Spoken) → end ≤ at → tail-of bs level l at end ≡ Ok l
+  unfolding tail-of
+  tail-done l h = rw (le-leb end at h)
+
+  module _ (l : Spoken) (h : at < end) (within : end ≤ length bs) where
+    pub tail-past : (e : ReadFault) → O.ends bs 1 level at end ≡ Err e → tail-of bs level l at end ≡ Err e
+    unfolding tail-of
+    tail-past e q = rw (lt-leb end at h, q)
+
+    module _ (to : ℕ) (q : O.ends bs 1 level at end ≡ Ok to) where
+      more : (t : Spoken) → O.tail bs (end - at) level t to end ≡ O.tail bs (suc (end - to)) level t to end
+      more t = let w = ends-within bs 1 level at end to q in tail-turns bs 0 (end - at) (suc (end - to)) to end (omega arith) within level t (omega arith) (omega arith)
+
+      pub tail-other : (getD bs at 0 ≡ 0 → ⊥) → tail-of bs level l at end ≡ tail-of bs level l to end
+      unfolding tail-of
+      tail-other n = rw (lt-leb end at h, q, ne-eqb (getD bs at 0) 0 n) (more l)
+
+      pub tail-second : getD bs at 0 ≡ 0 → heard l ≡ true → tail-of bs level l at end ≡ Err (SecondLanguage at level)
+      unfolding tail-of
+      tail-second n y = rw (lt-leb end at h, q, eq-eqb (getD bs at 0) 0 n, y)
+
+      pub tail-size : getD bs at 0 ≡ 0 → heard l ≡ false → (to ≡ at + 3 → ⊥) → tail-of bs level l at end ≡ Err (WrongSize at level)
+      unfolding tail-of
+      tail-size n y s = rw (lt-leb end at h, q, eq-eqb (getD bs at 0) 0 n, y, ne-eqb to (at + 3) s)
+
+      pub tail-language : getD bs at 0 ≡ 0 → heard l ≡ false → to ≡ at + 3 → tail-of bs level l at end ≡ tail-of bs level (Some (getD bs (at + 2) 0)) to end
+      unfolding tail-of
+      tail-language n y s = rw (lt-leb end at h, q, eq-eqb (getD bs at 0) 0 n, y, eq-eqb to (at + 3) s) (more (Some (getD bs (at + 2) 0)))
+
+-- the parts of a holder
+module _ (bs : List ℕ) (s : Spot) (level n at end : ℕ) where
+  pub parts-done : end ≤ at → parts-of bs s level n at end ≡ Ok 0
+  unfolding parts-of
+  parts-done h = rw (le-leb end at h)
+
+  module _ (h : at < end) (within : end ≤ length bs) (c : counted s ≡ false) (o : sealed s ≡ false) where
+    pub parts-past : (e : ReadFault) → O.ends bs (width s) level at end ≡ Err e → parts-of bs s level n at end ≡ Err e
+    unfolding parts-of
+    parts-past e q = rw (lt-leb end at h, q)
+
+    pub parts-part : (to : ℕ) → O.ends bs (width s) level at end ≡ Ok to
+        → parts-of bs s level n at end
+        ≡ then (component-of bs (kind-at s (getD bs at 0)) level n at (at + suc (width s)) to) (λ m. plus m (parts-of bs s level n to end))
+    unfolding parts-of component-of
+    parts-part to q =
+        let w = ends-within bs (width s) level at end to q in
+        let d : ℕ = getD bs 0 0 in
+        let k : ℕ = kind-at s (getD bs at 0) in
+        let x = component-turns bs d (end - at) (suc (to - (at + suc (width s)))) (at + suc (width s)) to (omega arith) (omega arith) k (level - 1) level n at (omega arith) (omega arith) in
+        let y = parts-turns bs d (end - at) (suc (end - to)) to end (omega arith) within s (level - 1) level n (omega arith) (omega arith) c (λ z. let v : _≡_ {A = ℕ} 0 1 = cc in absurd (omega arith)) in
+        rw (lt-leb end at h, q, x, y)
+        (many-both (O.component bs d (suc (to - (at + suc (width s)))) k (level - 1) level n at (at + suc (width s)) to) (O.parts bs d (suc (end - to)) s (level - 1) level n to end))
+
+-- the nodes of associated modes
+module _ (bs : List ℕ) (level n own at end : ℕ) where
+  pub nodes-done : at ≡ end → nodes-of bs 0 level n own at end ≡ Ok 0
+  unfolding nodes-of
+  nodes-done h = rw (eq-eqb at end h)
+
+  pub nodes-over : (at ≡ end → ⊥) → nodes-of bs 0 level n own at end ≡ Err (Miscounted own (level - 1))
+  unfolding nodes-of
+  nodes-over h = rw (ne-eqb at end h)
+
+  module _ (c : ℕ) (some : 0 < c) where
+    pub nodes-few : end ≤ at → nodes-of bs c level n own at end ≡ Err (Miscounted own (level - 1))
+    unfolding nodes-of
+    nodes-few h = rw (ne-eqb c 0 (omega arith), le-leb end at h)
+
+    module _ (h : at < end) (within : end ≤ length bs) where
+      pub nodes-past : (e : ReadFault) → O.ends bs 2 level at end ≡ Err e → nodes-of bs c level n own at end ≡ Err e
+      unfolding nodes-of
+      nodes-past e q = rw (ne-eqb c 0 (omega arith), lt-leb end at h, q)
+
+      module _ (to : ℕ) (q : O.ends bs 2 level at end ≡ Ok to) where
+        pub nodes-other : (getD bs at 0 ≡ 2 → ⊥) → nodes-of bs c level n own at end ≡ Err (Miscounted own (level - 1))
+        unfolding nodes-of
+        nodes-other i = rw (ne-eqb c 0 (omega arith), lt-leb end at h, q, ne-eqb (getD bs at 0) 2 i)
+
+        pub nodes-node : getD bs at 0 ≡ 2
+            → nodes-of bs c level n own at end ≡ then (component-of bs 1 level n at (at + 3) to) (λ m. plus m (nodes-of bs (c - 1) level n own to end))
+        unfolding nodes-of component-of
+        nodes-node i =
+            let w = ends-within bs 2 level at end to q in
+            let d : ℕ = getD bs 0 0 in
+            let x = component-turns bs d (end - at) (suc (to - (at + 3))) (at + 3) to (omega arith) (omega arith) 1 (level - 1) level n at (omega arith) (omega arith) in
+            let y = nodes-turns bs d (end - at) (suc (end - to)) to end (omega arith) within own (c - 1) (level - 1) level n (omega arith) (omega arith) in
+            rw (ne-eqb c 0 (omega arith), lt-leb end at h, q, eq-eqb (getD bs at 0) 2 i, x, y)
+            (many-both (O.component bs d (suc (to - (at + 3))) 1 (level - 1) level n at (at + 3) to) (O.nodes bs d (suc (end - to)) (c - 1) (level - 1) level n own to end))
+
+-- the tests of the fields come first, and what is counted after them starts from where the fields end
+after-fields : (p q r : Bool) (e₁ e₂ e₃ : ReadFault) (v : ℕ) (u : Unit {0} → Read Rows) (w : ℕ → Read ℕ)
+    → (p ≡ false → q ≡ false → r ≡ false → many (u tt) ≡ w v)
+    → many (if p (λ _. Err e₁) (λ _. if q (λ _. Err e₂) (λ _. if r (λ _. Err e₃) u)))
+    ≡ then (if p (λ _. Err e₁) (λ _. if q (λ _. Err e₂) (λ _. if r (λ _. Err e₃) (λ _. Ok v)))) w
+after-fields true q r e₁ e₂ e₃ v u w h = refl
+after-fields false true r e₁ e₂ e₃ v u w h = refl
+after-fields false false true e₁ e₂ e₃ v u w h = refl
+after-fields false false false e₁ e₂ e₃ v u w h = h refl refl refl
+
+closed-parts : (s : Spot) → closed s ≡ false → counted s ≡ false → sealed s ≡ false
+closed-parts Descriptions h k = refl
+closed-parts Node h k = refl
+closed-parts Reference h k = refl
+closed-parts Place h k = refl
+closed-parts Modes h k = refl
+closed-parts Associated h k = k
+closed-parts Nowhere h k = h
+
+then-const : (r : Read Spoken) (to : ℕ) (w : ℕ → Read ℕ) (x : Read ℕ) → x ≡ w to → then r (λ _. x) ≡ then (then r (λ _. Ok to)) w
+then-const (Ok l) to w x e = e
+then-const (Err f) to w x e = refl
+
+-- a text's own components end its data, and the data of others go on where the fields end
+module _ (to : ℕ) (w : ℕ → Read ℕ) where
+  text-way : Ok 1 ≡ w to → (b : Bool) → b ≡ true → (r : Read ℕ) (t : ℕ → Read Spoken)
+      → then r (λ a. then (t a) (λ _. Ok 1)) ≡ then (then r (λ a. if b (λ _. then (t a) (λ _. Ok to)) (λ _. Ok a))) w
+  text-way e true q (Ok a) t = then-const (t a) to w (Ok 1) e
+  text-way e true q (Err f) t = refl
+  text-way e false q r t = let v : _≡_ {A = ℕ} 0 1 = cc in absurd (omega arith)
+
+  other-way : (b : Bool) → b ≡ false → (r : Read ℕ) (t : ℕ → Read Spoken)
+      → then r w ≡ then (then r (λ a. if b (λ _. then (t a) (λ _. Ok to)) (λ _. Ok a))) w
+  other-way true q r t = let v : _≡_ {A = ℕ} 0 1 = cc in absurd (omega arith)
+  other-way false q (Ok a) t = refl
+  other-way false q (Err f) t = refl
+
+-- a known component
+module _ (bs : List ℕ) (k level n at from to : ℕ) (known : k ≡ 0 → ⊥) (some : 1 ≤ level) (h : from ≤ to) (within : to ≤ length bs) where
+  pub component-deep : 8 < deeper (layout k .inside) n → component-of bs k level n at from to ≡ Err (TooDeep at level)
+  unfolding component-of
+  component-deep d = rw (ne-eqb k 0 known, lt-ltb 8 (deeper (layout k .inside) n) d)
+
+  module _ (fit : deeper (layout k .inside) n ≤ 8) where
+    -- whose parts are counted nodes
+    pub component-count : is-count (layout k .fields) ≡ true
+        → component-of bs k level n at from to ≡ then (fields-of bs (layout k) level at from to) (λ a. plus 1 (nodes-of bs (getD bs from 0) (suc level) n at a to))
+    unfolding component-of nodes-of
+    component-count c =
+        let f = count-of (layout k .fields) c in
+        let text : is-text (layout k .fields) ≡ false = ap is-text f in
+        let deep : suc (level - 1) ≡ suc level - 1 = omega arith in
+        rw (ne-eqb k 0 known, le-ltb 8 (deeper (layout k .inside) n) fit)
+        (after-fields (ltb to (from + O.least bs (layout k .fields) from)) (O.ends-there (layout k) && not (eqb to (from + O.least bs (layout k .fields) from))) (O.off-globe bs (layout k .fields) from) _ _ _ _ _ _ λ p q r.
+        let l = ltb-false to (from + O.least bs (layout k .fields) from) p in
+        let one : from + O.least bs (layout k .fields) from ≡ from + 1 = ap (λ (x : Fields). from + O.least bs x from) f in
+        let t = nodes-turns bs (getD bs 0 0) (to - from) (suc (to - (from + 1))) (from + 1) to (omega arith) within at (getD bs from 0) (suc (level - 1)) (suc level) n (omega arith) (omega arith) in
+        rw (text, c, one, t, deep) (many-one _ _))
+
+    -- whose parts stand at a spot of their own
+    pub component-held : is-count (layout k .fields) ≡ false → is-text (layout k .fields) ≡ false
+        → component-of bs k level n at from to
+        ≡ then (fields-of bs (layout k) level at from to) (λ a. plus 1 (parts-of bs (layout k .inside) (suc level) (deeper (layout k .inside) n) a to))
+    unfolding component-of parts-of
+    component-held c text =
+        let deep : suc (level - 1) ≡ suc level - 1 = omega arith in
+        let free : counted (layout k .inside) ≡ false = counts-agree k ∙ c in
+        rw (ne-eqb k 0 known, le-ltb 8 (deeper (layout k .inside) n) fit)
+        (after-fields (ltb to (from + O.least bs (layout k .fields) from)) (O.ends-there (layout k) && not (eqb to (from + O.least bs (layout k .fields) from))) (O.off-globe bs (layout k .fields) from) _ _ _ _ _ _ λ p q r.
+        let l = ltb-false to (from + O.least bs (layout k .fields) from) p in
+        let a : ℕ = from + O.least bs (layout k .fields) from in
+        let t = parts-turns bs (getD bs 0 0) (to - from) (suc (to - a)) a to (omega arith) within (layout k .inside) (suc (level - 1)) (suc level) (deeper (layout k .inside) n) (omega arith) (omega arith) free
+        (λ z. by-cases (closed (layout k .inside))
+        (λ y. sym (eqb-true to a (not-false _ (rw (y, text) at q))))
+        (λ y. let v = closed-parts (layout k .inside) y free in let w : _≡_ {A = ℕ} 0 1 = cc in absurd (omega arith))) in
+        rw (text, c, t, deep) (many-one _ _))
+
+    -- a text
+    pub component-text : is-text (layout k .fields) ≡ true
+        → component-of bs k level n at from to ≡ then (fields-of bs (layout k) level at from to) (λ a. then (tail-of bs (suc level) None a to) (λ _. Ok 1))
+    unfolding component-of tail-of
+    component-text text =
+        rw (ne-eqb k 0 known, le-ltb 8 (deeper (layout k .inside) n) fit)
+        (after-fields (ltb to (from + O.least bs (layout k .fields) from)) (O.ends-there (layout k) && not (eqb to (from + O.least bs (layout k .fields) from))) (O.off-globe bs (layout k .fields) from) _ _ _ _ _ _ λ p q r.
+        let l = ltb-false to (from + O.least bs (layout k .fields) from) p in
+        let a : ℕ = from + O.least bs (layout k .fields) from in
+        let e : from + O.least bs Text from ≡ a = ap (λ (x : Fields). from + O.least bs x from) (sym (text-of (layout k .fields) text)) in
+        let t = tail-turns bs 0 (to - from) (suc (to - a)) a to (omega arith) within (suc level) None (omega arith) (omega arith) in
+        rw (text, e, t) (many-text _ _))
+
+    -- a component that holds no nodes of its own, in one form
+    pub component-flat : is-count (layout k .fields) ≡ false
+        → component-of bs k level n at from to
+        ≡ then (data-of bs (layout k) level at from to) (λ a. plus 1 (parts-of bs (layout k .inside) (suc level) (deeper (layout k .inside) n) a to))
+    component-flat c =
+        by-cases (is-text (layout k .fields))
+        (λ t. component-text t ∙ text-way to _ (ap (plus 1) (sym (parts-done bs (layout k .inside) (suc level) (deeper (layout k .inside) n) to to (omega arith)))) (is-text (layout k .fields)) t (fields-of bs (layout k) level at from to) (λ a. tail-of bs (suc level) None a to))
+        (λ t. component-held c t ∙ other-way to _ (is-text (layout k .fields)) t (fields-of bs (layout k) level at from to) (λ a. tail-of bs (suc level) None a to))
+
+-- an identifier that was looked up
+pub part-is : (bs : List ℕ) (k level n at from to : ℕ) → part-of bs (some-kind k) level n at from to ≡ component-of bs k level n at from to
+unfolding component-of
+part-is bs zero level n at from to = refl
+part-is bs (suc k) level n at from to = refl
+
+-- the container's components
+tops-turns : (bs : List ℕ) (d f g : ℕ) (seen : Bool) (i : ℕ) → i ≤ length bs → length bs - i ≤ f → length bs - i ≤ g → O.tops bs d f seen i ≡ O.tops bs d g seen i
+tops-turns bs d f g seen i h a b =
+    tops-same bs d (suc (length bs - i)) f seen i h (omega arith) a ∙ sym (tops-same bs d (suc (length bs - i)) g seen i h (omega arith) b)
+
+module _ (bs : List ℕ) (seen : Bool) (at : ℕ) where
+  pub tops-done : length bs ≤ at → tops-of bs seen at ≡ Ok 0
+  unfolding tops-of
+  tops-done h = rw (le-leb (length bs) at h)
+
+  module _ (h : at < length bs) where
+    pub tops-past : (e : ReadFault) → O.ends bs 2 0 at (length bs) ≡ Err e → tops-of bs seen at ≡ Err e
+    unfolding tops-of
+    tops-past e q = rw (lt-leb (length bs) at h, q)
+
+    module _ (to : ℕ) (q : O.ends bs 2 0 at (length bs) ≡ Ok to) where
+      pub tops-other : (getD bs at 0 ≡ 1 → ⊥) → tops-of bs seen at ≡ tops-of bs seen to
+      unfolding tops-of
+      tops-other i =
+          let w = ends-within bs 2 0 at (length bs) to q in
+          rw (lt-leb (length bs) at h, q, ne-eqb (getD bs at 0) 1 i)
+          (ap many (tops-turns bs (getD bs 0 0) (length bs - at) (suc (length bs - to)) seen to (omega arith) (omega arith) (omega arith)))
+
+      pub tops-second : getD bs at 0 ≡ 1 → seen ≡ true → tops-of bs seen at ≡ Err (SecondDescriptions at)
+      unfolding tops-of
+      tops-second i y = rw (lt-leb (length bs) at h, q, eq-eqb (getD bs at 0) 1 i, y)
+
+      pub tops-described : getD bs at 0 ≡ 1 → seen ≡ false
+          → tops-of bs seen at ≡ then (parts-of bs Descriptions 1 0 (at + 3) to) (λ m. plus m (tops-of bs true to))
+      unfolding tops-of parts-of
+      tops-described i y =
+          let w = ends-within bs 2 0 at (length bs) to q in
+          let d : ℕ = getD bs 0 0 in
+          let t = parts-turns bs d (2 * length bs) (suc (to - (at + 3))) (at + 3) to (omega arith) (omega arith) Descriptions 0 1 0 (omega arith) (omega arith) refl (λ z. let v : _≡_ {A = ℕ} 0 1 = cc in absurd (omega arith)) in
+          let u = tops-turns bs d (length bs - at) (suc (length bs - to)) true to (omega arith) (omega arith) (omega arith) in
+          rw (lt-leb (length bs) at h, q, eq-eqb (getD bs at 0) 1 i, y, t, u)
+          (many-both (O.parts bs d (suc (to - (at + 3))) Descriptions 0 1 0 (at + 3) to) (O.tops bs d (suc (length bs - to)) true to))
+
+-- the whole reading
+module _ (bs : List ℕ) where
+  pub reading-long : 65535 < length bs → many (reading bs) ≡ Err TooLong
+  reading-long h = rw (← reading-same bs, lt-ltb 65535 (length bs) h)
+
+  pub reading-empty : length bs ≡ 0 → many (reading bs) ≡ Err Empty
+  reading-empty h = rw (← reading-same bs, h)
+
+  pub reading-tops : length bs ≤ 65535 → 0 < length bs → many (reading bs) ≡ tops-of bs false 1
+  unfolding tops-of
+  reading-tops h k =
+      rw (← reading-same bs, le-ltb 65535 (length bs) h, ne-eqb (length bs) 0 (omega arith))
+      (ap many (tops-turns bs (getD bs 0 0) (length bs) (suc (length bs - 1)) false 1 (omega arith) (omega arith) (omega arith)))

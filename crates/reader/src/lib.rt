@@ -1,0 +1,3 @@
+// Reads containers: a check that names the first fault, and the container on the air as a location.
+mod edge;
+mod parts;
