@@ -18,6 +18,8 @@ use Rattle.grammar.specs.Reading.{counted, is-count, is-text, closed}
 use mathlib.Core.Logic.{_⊎_, inl, inr, ⊎-elim}
 use lib.ListN.{List·getD-eq-default}
 use Rattle.grammar.specs.Format.{width, fixed-bytes}
+use Rattle.grammar.specs.Offsets as O
+use Rattle.grammar.specs.Checks.{leafy}
 use Rattle.grammar.specs.Theorems.{Stands-at, Found-by-line, Found-by-id, Fixed-by-fields}
 use borrow.Author.Tests.{ltb-false, eqb-false}
 use Rattle.grammar.proofs.Cut.{by-cases}
@@ -169,3 +171,69 @@ stands Nowhere i h = absurd (h refl)
 
 pub found-by-id : Found-by-id
 found-by-id s i h = (stands s i h, kind-id s i h)
+
+-- where a line says so of both its spots, it holds of each kind that is found at such a spot
+found-line : (t : Spot → Layout → Bool) → T (all-lines (λ (l : Layout). t (l .holder) l && (closed (l .again) || t (l .again) l)) table)
+    → T (t Nowhere blank) → (s : Spot) (i : ℕ) → (kind-at s i ≡ 0 → ⊥) → T (t s (layout (kind-at s i)))
+found-line t all none s i h =
+    let at = stands s i h in
+    let l : Layout = layout (kind-at s i) in
+    let both = line-at (λ (l : Layout). t (l .holder) l && (closed (l .again) || t (l .again) l)) blank (and-in _ _ none (tt)) table all (kind-at s i) in
+    ⊎-elim
+      (λ e. subst (λ (x : Spot). T (t x l)) e (both-left _ _ both))
+      (λ e.
+        let u : T (closed s || t s l) = subst (λ (x : Spot). T (closed x || t x l)) e (both-right _ _ both) in
+        rw (not-closed s (at .0)) at u)
+      (at .1)
+  where
+    and-in : (a b : Bool) → T a → T b → T (a && b)
+    and-in true b x y = y
+    and-in false b x y = x
+
+-- what stands at a leafy spot holds nothing
+pub leafy-closed : (s : Spot) (i : ℕ) → leafy s ≡ true → (kind-at s i ≡ 0 → ⊥) → closed (layout (kind-at s i) .inside) ≡ true
+leafy-closed s i y h = implied _ _ (found-line (λ (x : Spot) (l : Layout). not (leafy x) || closed (l .inside)) tt tt s i h) y
+
+abbrev at-node : Spot → Bool
+at-node s = eqb (spot-number s) 1
+
+-- what stands in a node and counts no nodes holds leaves at most
+pub node-leafy : (i : ℕ) → (kind-at Node i ≡ 0 → ⊥) → is-count (layout (kind-at Node i) .fields) ≡ false → leafy (layout (kind-at Node i) .inside) ≡ true
+node-leafy i h c =
+    let t = implied (at-node Node) (is-count (layout (kind-at Node i) .fields) || leafy (layout (kind-at Node i) .inside))
+        (found-line (λ (x : Spot) (l : Layout). not (at-node x) || (is-count (l .fields) || leafy (l .inside))) tt tt Node i h) refl in
+    rw c at t
+
+-- nothing but nodes stands among the descriptions and in associated modes
+pub node-described : (i : ℕ) → (kind-at Descriptions i ≡ 0 → ⊥) → layout (kind-at Descriptions i) .inside ≡ Node
+node-described i h = same-spot _ Node (found-line (λ (x : Spot) (l : Layout). not (eqb (spot-number x) 0) || at-node (l .inside)) tt tt Descriptions i h)
+
+pub node-associated : (i : ℕ) → (kind-at Associated i ≡ 0 → ⊥) → layout (kind-at Associated i) .inside ≡ Node
+node-associated i h = same-spot _ Node (found-line (λ (x : Spot) (l : Layout). not (eqb (spot-number x) 5) || at-node (l .inside)) tt tt Associated i h)
+
+-- the bytes that fields take at least, by the line of their kind
+pub least-fixed : (bs : List ℕ) (k i : ℕ) → is-text (layout k .fields) ≡ false → O.least bs (layout k .fields) i ≡ layout k .fixed
+least-fixed bs k i t = go (layout k .fields) t ∙ sym (fixed-by-fields k)
+  where
+    go : (f : Fields) → is-text f ≡ false → O.least bs f i ≡ fixed-bytes f
+    go Nothing h = refl
+    go Code h = refl
+    go Text h = let z : _≡_ {A = ℕ} 0 1 = cc in absurd (omega arith)
+    go Globe h = refl
+    go Floor h = refl
+    go Count h = refl
+    go Radius h = refl
+    go Height h = refl
+
+pub least-text : (bs : List ℕ) (k i : ℕ) → is-text (layout k .fields) ≡ true → O.least bs (layout k .fields) i ≡ layout k .fixed + getD bs i 0
+least-text bs k i t = go (layout k .fields) t ∙ ap (λ (n : ℕ). n + getD bs i 0) (sym (fixed-by-fields k))
+  where
+    go : (f : Fields) → is-text f ≡ true → O.least bs f i ≡ fixed-bytes f + getD bs i 0
+    go Nothing h = let z : _≡_ {A = ℕ} 0 1 = cc in absurd (omega arith)
+    go Code h = let z : _≡_ {A = ℕ} 0 1 = cc in absurd (omega arith)
+    go Text h = refl
+    go Globe h = let z : _≡_ {A = ℕ} 0 1 = cc in absurd (omega arith)
+    go Floor h = let z : _≡_ {A = ℕ} 0 1 = cc in absurd (omega arith)
+    go Count h = let z : _≡_ {A = ℕ} 0 1 = cc in absurd (omega arith)
+    go Radius h = let z : _≡_ {A = ℕ} 0 1 = cc in absurd (omega arith)
+    go Height h = let z : _≡_ {A = ℕ} 0 1 = cc in absurd (omega arith)

@@ -18,12 +18,12 @@ use Rattle.grammar.specs.declared.table.Spot.the-variants.{Descriptions, Node,
 use Rattle.grammar.specs.declared.table.Fields.{Fields}
 use Rattle.grammar.specs.declared.table.Fields.the-variants.{Nothing, Code, Text, Globe, Floor, Count, Radius, Height}
 use Rattle.grammar.specs.declared.table.Layout.{Layout}
-use Rattle.grammar.specs.Format.{width, layout, kind-at, some-kind}
+use Rattle.grammar.specs.Format.{width, layout, kind-at}
 use Rattle.grammar.specs.Grammar.{Row, Rows, deeper}
 use Rattle.grammar.specs.Reading.{Read, then, if, Spoken, heard, is-text, is-count, closed, counted, sealed, reading}
 use Rattle.grammar.specs.Offsets as O
-use Rattle.grammar.specs.Checks.{many, plus, tail-of, parts-of, nodes-of, component-of, tops-of, fields-of, data-of, part-of}
-use Rattle.grammar.proofs.Cut.{by-cases, err-ok, ok-ok}
+use Rattle.grammar.specs.Checks.{many, plus, tail-of, parts-of, nodes-of, component-of, tops-of, fields-of, data-of}
+use Rattle.grammar.proofs.Cut.{by-cases, by-then, by-test, err-ok, ok-ok}
 use Rattle.grammar.proofs.Lines.{counts-agree, text-closed}
 use borrow.Author.Tests.{not-false}
 use Rattle.grammar.proofs.Sound.{text-of}
@@ -246,11 +246,10 @@ module _ (bs : List ℕ) (k level n at from to : ℕ) (known : k ≡ 0 → ⊥) 
         (λ t. component-text t ∙ text-way to _ (ap (plus 1) (sym (parts-done bs (layout k .inside) (suc level) (deeper (layout k .inside) n) to to (omega arith)))) (is-text (layout k .fields)) t (fields-of bs (layout k) level at from to) (λ a. tail-of bs (suc level) None a to))
         (λ t. component-held c t ∙ other-way to _ (is-text (layout k .fields)) t (fields-of bs (layout k) level at from to) (λ a. tail-of bs (suc level) None a to))
 
--- an identifier that was looked up
-pub part-is : (bs : List ℕ) (k level n at from to : ℕ) → part-of bs (some-kind k) level n at from to ≡ component-of bs k level n at from to
+-- nothing is told of an unknown component
+pub component-unknown : (bs : List ℕ) (level n at from to : ℕ) → component-of bs 0 level n at from to ≡ Ok 0
 unfolding component-of
-part-is bs zero level n at from to = refl
-part-is bs (suc k) level n at from to = refl
+component-unknown bs level n at from to = refl
 
 -- the container's components
 tops-turns : (bs : List ℕ) (d f g : ℕ) (seen : Bool) (i : ℕ) → i ≤ length bs → length bs - i ≤ f → length bs - i ≤ g → O.tops bs d f seen i ≡ O.tops bs d g seen i
@@ -303,3 +302,16 @@ module _ (bs : List ℕ) where
   reading-tops h k =
       rw (← reading-same bs, le-ltb 65535 (length bs) h, ne-eqb (length bs) 0 (omega arith))
       (ap many (tops-turns bs (getD bs 0 0) (length bs) (suc (length bs - 1)) false 1 (omega arith) (omega arith) (omega arith)))
+
+-- the data of a component that holds no others fill it
+pub data-closed : (bs : List ℕ) (k level at from to a : ℕ) → closed (layout k .inside) ≡ true → data-of bs (layout k) level at from to ≡ Ok a → a ≡ to
+data-closed bs k level at from to a c h =
+    by-then (fields-of bs (layout k) level at from to) _ h λ b e h₁.
+    by-cases (is-text (layout k .fields))
+      (λ t. let h₂ = rw t at h₁ in by-then (tail-of bs (suc level) None b to) _ h₂ λ l e₂ h₃. sym (ok-ok h₃))
+      (λ t.
+        by-test (ltb to (from + O.least bs (layout k .fields) from)) _ _ e λ p e₁.
+        by-test (O.ends-there (layout k) && not (eqb to (from + O.least bs (layout k .fields) from))) _ _ e₁ λ q e₂.
+        by-test (O.off-globe bs (layout k .fields) from) _ _ e₂ λ r e₃.
+        let f : to ≡ from + O.least bs (layout k .fields) from = eqb-true _ _ (not-false _ (rw (c, t) at q)) in
+        sym (f ∙ ok-ok e₃ ∙ ok-ok (rw t at h₁)))

@@ -12,6 +12,7 @@ use Rattle.std.specs.declared.option.Option.the-variants.{Some, None}
 use Rattle.grammar.specs.declared.fault.ReadFault.{ReadFault}
 use Rattle.grammar.specs.declared.fault.ReadFault.the-variants.{PastEnd, WrongSize, OffGlobe}
 use Rattle.grammar.specs.declared.table.Spot.{Spot}
+use Rattle.grammar.specs.declared.table.Spot.the-variants.{Descriptions, Node, Reference, Place, Modes, Associated, Nowhere}
 use Rattle.grammar.specs.declared.table.Fields.{Fields}
 use Rattle.grammar.specs.declared.table.Fields.the-variants.{Nothing, Code, Text, Globe, Floor, Count, Radius, Height}
 use Rattle.grammar.specs.declared.table.Layout.{Layout}
@@ -51,6 +52,10 @@ module _ (bs : List ℕ) where
   unfoldable pub tops-of : Bool → ℕ → Read ℕ
   tops-of seen at = many (O.tops bs (getD bs 0 0) (suc (length bs - at)) seen at)
 
+  -- the bytes of the fields from `from` on, if they end before `to`
+  abbrev pub room-for : Fields → ℕ → ℕ → Option ℕ
+  room-for f from to = if (ltb to (from + O.least bs f from)) (λ _. None) (λ _. Some (O.least bs f from))
+
   -- where the parts begin, past the fixed fields of the component at `at`
   abbrev pub fields-of : Layout → ℕ → ℕ → ℕ → ℕ → Read ℕ
   fields-of l level at from to =
@@ -64,7 +69,12 @@ module _ (bs : List ℕ) where
       then (fields-of l level at from to)
       (λ a. if (is-text (l .fields)) (λ _. then (tail-of (suc level) None a to) (λ _. Ok to)) (λ _. Ok a))
 
-  -- what an identifier was found to be: nothing is told of an unknown component
-  abbrev pub part-of : Option ℕ → ℕ → ℕ → ℕ → ℕ → ℕ → Read ℕ
-  part-of None level n at from to = Ok 0
-  part-of (Some k) level n at from to = component-of k level n at from to
+-- a spot whose components hold no components of their own
+abbrev pub leafy : Spot → Bool
+leafy Descriptions = false
+leafy Node = false
+leafy Reference = true
+leafy Place = true
+leafy Modes = true
+leafy Associated = false
+leafy Nowhere = true

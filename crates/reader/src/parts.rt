@@ -3,15 +3,16 @@ ghost use mathlib.Core.Path.{_≡_};
 ghost use Prim.Native.Nat.{ℕ, suc, _+_, _-_, _*_, _<_, _≤_, _^_};
 ghost use lib.ListN.{length, getD};
 ghost use Rattle.std.specs.Results.{Cases};
-ghost use Rattle.grammar.specs.Offsets.{value as value-at, ends, off-globe};
+ghost use Rattle.grammar.specs.Offsets.{value as value-at, ends, least};
 ghost use Rattle.std.specs.declared.option.Option.the-variants.{None};
-ghost use Rattle.grammar.specs.Format.{width};
-ghost use Rattle.grammar.specs.Checks.{tail-of, fields-of};
-ghost use Rattle.reader.specs.Opened.{opened, Past-header};
+ghost use Rattle.grammar.specs.Format.{width, layout};
+ghost use Rattle.grammar.specs.Checks.{tail-of, room-for, fields-of, data-of};
+ghost use Rattle.reader.specs.Opened.{Opened};
 use super::edge::Reader;
-use grammar::Layout;
+use fields::numbers;
 use grammar::ReadFault;
 use grammar::Spot;
+use grammar::layout_of;
 
 // The identifier of a text's language part.
 const LANGUAGE: u8 = 0;
@@ -57,35 +58,31 @@ pub fn header(
     Ok(from + length)
 }
 
-// A component whose header was read: where it stands, its kind if its identifier is known there, and where it ends.
+// A known component whose header was read: where it stands, its kind, and where it ends.
 #[derive(Clone, Copy)]
 pub struct Part {
     pub place: usize,
-    pub kind: Option<u8>,
+    pub kind: u8,
     pub stop: usize,
 }
 
-// Reads the header of the component at the reader's place, and looks its identifier up.
-pub fn open_part(
-    bytes: &[u8],
-    reader: &mut Reader,
-    spot: Spot,
-    level: u8,
-) -> Result<Part, ReadFault>
+// Reads the header at the reader's place and looks the identifier up; an unknown component is passed over.
+pub fn open_part(bytes: &[u8], reader: &mut Reader, spot: Spot, level: u8) -> Result<Option<Part>, ReadFault>
     requires some { ⌜ now reader .at < now reader .end ⌝ }
     requires within { ⌜ now reader .end ≤ length (now bytes) ⌝ }
-    ensures value { λ r. ⌜ r ≡ opened (now (bytes .entry)) spot level (now (reader .entry) .at) (now (reader .entry) .end) ⌝ }
     ensures edge { λ _. ⌜ now (reader .exit) .end ≡ now (reader .entry) .end ⌝ }
-    ensures moved { λ r. ⌜ Past-header r (now (reader .entry) .at) (width spot) (now (reader .exit)) ⌝ }
+    ensures found { λ r. ⌜ Opened (now (bytes .entry)) spot level (now (reader .entry) .at) (now (reader .entry) .end) r (now (reader .exit)) ⌝ }
 {
     let place = reader.at;
     let id = bytes[place];
     let stop = header(bytes, reader, spot.width(), level)?;
-    Ok(Part {
-        place,
-        kind: spot.kind_at(id),
-        stop,
-    })
+    match spot.kind_at(id) {
+        Some(kind) => Ok(Some(Part { place, kind, stop })),
+        None => {
+            reader.at = stop;
+            Ok(None)
+        }
+    }
 }
 
 // The language that a text's own components say, from the reader's place to its edge.
@@ -112,4 +109,66 @@ pub fn read_language(bytes: &[u8], reader: &mut Reader, level: u8) -> Result<Opt
         reader.at = stop;
     }
     Ok(language)
+}
+
+// The bytes that the fixed fields of a kind take, a text with them.
+fn least_at(bytes: &[u8], at: usize, kind: u8) -> usize
+    requires { ⌜ at + layout kind .fixed ≤ length (now bytes) ⌝ }
+    ensures { λ r. ⌜ r ≡ least (now (bytes .entry)) (layout kind .fields) at ⌝ }
+{
+    let layout = layout_of(kind);
+    let fixed = usize::from(layout.fixed);
+    if layout.is_text() { fixed + usize::from(bytes[at]) } else { fixed }
+}
+
+// The same, if they end before the reader's edge.
+pub fn fields_size(bytes: &[u8], reader: &Reader, kind: u8) -> Option<usize>
+    requires order { ⌜ now reader .at ≤ now reader .end ⌝ }
+    requires within { ⌜ now reader .end ≤ length (now bytes) ⌝ }
+    ensures { λ r. ⌜ r ≡ room-for (now (bytes .entry)) (layout kind .fields) (now (reader .entry) .at) (now (reader .entry) .end) ⌝ }
+{
+    let room = reader.end - reader.at;
+    if room < usize::from(layout_of(kind).fixed) {
+        return None;
+    }
+    let size = least_at(bytes, reader.at, kind);
+    if room < size { None } else { Some(size) }
+}
+
+// Passes the fixed fields of the component at `place`, whose data the reader stands at, and answers where its parts begin.
+pub fn pass_fields(bytes: &[u8], reader: &mut Reader, kind: u8, place: usize, level: u8) -> Result<usize, ReadFault>
+    requires order { ⌜ now reader .at ≤ now reader .end ⌝ }
+    requires within { ⌜ now reader .end ≤ length (now bytes) ⌝ }
+    ensures value { λ r. ⌜ r ≡ fields-of (now (bytes .entry)) (layout kind) level place (now (reader .entry) .at) (now (reader .entry) .end) ⌝ }
+    ensures edge { λ _. ⌜ now (reader .exit) .end ≡ now (reader .entry) .end ⌝ }
+    ensures moved { λ r. ⌜ Cases r (λ a. (now (reader .exit) .at ≡ a) × (now (reader .entry) .at ≤ a) × (a ≤ now (reader .entry) .end)) (λ _. Unit {0}) ⌝ }
+{
+    let layout = layout_of(kind);
+    let Some(size) = fields_size(bytes, reader, kind) else {
+        return Err(ReadFault::WrongSize { place, level });
+    };
+    if layout.ends_there() && size != reader.end - reader.at {
+        return Err(ReadFault::WrongSize { place, level });
+    }
+    if numbers(layout.fields, bytes, reader.at).is_none() {
+        return Err(ReadFault::OffGlobe { place, level });
+    }
+    reader.at += size;
+    Ok(reader.at)
+}
+
+// The same past a text's own components too.
+pub fn pass_data(bytes: &[u8], reader: &mut Reader, kind: u8, place: usize, level: u8) -> Result<usize, ReadFault>
+    requires order { ⌜ now reader .at ≤ now reader .end ⌝ }
+    requires within { ⌜ now reader .end ≤ length (now bytes) ⌝ }
+    requires levels { ⌜ level < 255 ⌝ }
+    ensures value { λ r. ⌜ r ≡ data-of (now (bytes .entry)) (layout kind) level place (now (reader .entry) .at) (now (reader .entry) .end) ⌝ }
+    ensures edge { λ _. ⌜ now (reader .exit) .end ≡ now (reader .entry) .end ⌝ }
+    ensures moved { λ r. ⌜ Cases r (λ a. (now (reader .exit) .at ≡ a) × (now (reader .entry) .at ≤ a) × (a ≤ now (reader .entry) .end)) (λ _. Unit {0}) ⌝ }
+{
+    pass_fields(bytes, reader, kind, place, level)?;
+    if layout_of(kind).is_text() {
+        read_language(bytes, reader, level + 1)?;
+    }
+    Ok(reader.at)
 }
