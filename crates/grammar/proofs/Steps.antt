@@ -22,12 +22,13 @@ use Rattle.grammar.specs.Format.{width, layout, kind-at}
 use Rattle.grammar.specs.Grammar.{Row, Rows, deeper}
 use Rattle.grammar.specs.Reading.{Read, then, if, Spoken, heard, is-text, is-count, closed, counted, sealed, reading}
 use Rattle.grammar.specs.Offsets as O
-use Rattle.grammar.specs.Checks.{many, plus, tail-of, parts-of, nodes-of, component-of, tops-of, fields-of, data-of}
-use Rattle.grammar.proofs.Cut.{by-cases, by-then, by-test, err-ok, ok-ok}
+use Rattle.grammar.specs.Checks.{many, plus, tail-of, parts-of, nodes-of, component-of, tops-of, fields-of, data-of, leafy}
+use Rattle.grammar.proofs.Cut.{by-cases, by-then, by-test, go-then, err-ok, ok-ok}
+use Rattle.grammar.proofs.Complete.{is-nowhere}
 use Rattle.grammar.proofs.Lines.{counts-agree, text-closed}
 use borrow.Author.Tests.{not-false}
 use Rattle.grammar.proofs.Sound.{text-of}
-use Rattle.grammar.proofs.Same.{count-of, tops-same, reading-same, tail-turns, parts-turns, nodes-turns, component-turns}
+use Rattle.grammar.proofs.Same.{count-of, associated-of, tops-same, reading-same, tail-turns, parts-turns, nodes-turns, component-turns}
 
 -- what a header's end obeys
 pub ends-within : (bs : List ℕ) (w level at end to : ℕ) → O.ends bs w level at end ≡ Ok to → (at + suc w ≤ to) × (to ≤ end)
@@ -315,3 +316,148 @@ data-closed bs k level at from to a c h =
         by-test (O.off-globe bs (layout k .fields) from) _ _ e₂ λ r e₃.
         let f : to ≡ from + O.least bs (layout k .fields) from = eqb-true _ _ (not-false _ (rw (c, t) at q)) in
         sym (f ∙ ok-ok e₃ ∙ ok-ok (rw t at h₁)))
+
+leafy-deeper : (s : Spot) (n : ℕ) → leafy s ≡ true → deeper s n ≡ n
+leafy-deeper Descriptions n h = refl
+leafy-deeper Node n h = let z : _≡_ {A = ℕ} 0 1 = cc in absurd (omega arith)
+leafy-deeper Reference n h = refl
+leafy-deeper Place n h = refl
+leafy-deeper Modes n h = refl
+leafy-deeper Associated n h = refl
+leafy-deeper Nowhere n h = refl
+
+leafy-counted : (s : Spot) → leafy s ≡ true → counted s ≡ false
+leafy-counted Descriptions h = refl
+leafy-counted Node h = refl
+leafy-counted Reference h = refl
+leafy-counted Place h = refl
+leafy-counted Modes h = refl
+leafy-counted Associated h = sym h
+leafy-counted Nowhere h = refl
+
+pub leafy-open : (s : Spot) → leafy s ≡ true → closed s ≡ false → (counted s ≡ false) × (sealed s ≡ false)
+leafy-open s h k = (leafy-counted s h, closed-parts s k (leafy-counted s h))
+
+pub closed-leafy : (s : Spot) → closed s ≡ true → leafy s ≡ true
+closed-leafy s h = rw (is-nowhere s h)
+
+pub then-err : {X Y : Type 0} (r : Read X) (f : X → Read Y) (e : ReadFault) → r ≡ Err e → then r f ≡ Err e
+then-err r f e q = rw q
+
+-- a component that holds leaves at most
+module _ (bs : List ℕ) (k level n at from to : ℕ) (known : 0 < k) (some : 1 ≤ level) (h : from ≤ to) (within : to ≤ length bs)
+         (leaf : leafy (layout k .inside) ≡ true) (few : n ≤ 8) where
+  flat-is : component-of bs k level n at from to ≡ then (data-of bs (layout k) level at from to) (λ a. plus 1 (parts-of bs (layout k .inside) (level + 1) n a to))
+  flat-is =
+      let d = leafy-deeper (layout k .inside) n leaf in
+      let e : suc level ≡ level + 1 = omega arith in
+      component-flat bs k level n at from to (omega arith) some h within (omega arith) (sym (counts-agree k) ∙ leafy-counted (layout k .inside) leaf)
+      ∙ ap (λ (m : ℕ). then (data-of bs (layout k) level at from to) (λ a. plus 1 (parts-of bs (layout k .inside) (suc level) m a to))) d
+      ∙ ap (λ (l : ℕ). then (data-of bs (layout k) level at from to) (λ a. plus 1 (parts-of bs (layout k .inside) l n a to))) e
+
+  pub flat-fault : (e : ReadFault) → data-of bs (layout k) level at from to ≡ Err e → component-of bs k level n at from to ≡ Err e
+  flat-fault e q = flat-is ∙ then-err (data-of bs (layout k) level at from to) _ e q
+
+  module _ (a : ℕ) (q : data-of bs (layout k) level at from to ≡ Ok a) where
+    flat-inner : component-of bs k level n at from to ≡ plus 1 (parts-of bs (layout k .inside) (level + 1) n a to)
+    flat-inner = flat-is ∙ go-then (data-of bs (layout k) level at from to) _ q refl
+
+    pub flat-inner-fault : (e : ReadFault) → parts-of bs (layout k .inside) (level + 1) n a to ≡ Err e → component-of bs k level n at from to ≡ Err e
+    flat-inner-fault e r = flat-inner ∙ rw r
+
+    pub flat-ok : (m : ℕ) → parts-of bs (layout k .inside) (level + 1) n a to ≡ Ok m → component-of bs k level n at from to ≡ Ok (m + 1)
+    flat-ok m r = flat-inner ∙ rw r (ap Ok (omega arith))
+
+    pub leaf-ok : closed (layout k .inside) ≡ true → component-of bs k level n at from to ≡ Ok 1
+    leaf-ok c = flat-inner ∙ ap (plus 1) (parts-done bs (layout k .inside) (level + 1) n a to (omega (arith, data-closed bs k level at from to a c q)))
+
+-- one component of a holder's parts, and the count of those before it
+module _ (bs : List ℕ) (s : Spot) (level n at end : ℕ) (h : at < end) (within : end ≤ length bs) (c : counted s ≡ false) (o : sealed s ≡ false)
+         (to k : ℕ) (q : O.ends bs (width s) level at end ≡ Ok to) (is-k : kind-at s (getD bs at 0) ≡ k) (from : ℕ) (is-from : from ≡ at + suc (width s)) where
+  part-is : parts-of bs s level n at end ≡ then (component-of bs k level n at from to) (λ m. plus m (parts-of bs s level n to end))
+  part-is =
+      parts-part bs s level n at end h within c o to q
+      ∙ ap (λ (x : ℕ). then (component-of bs x level n at (at + suc (width s)) to) (λ m. plus m (parts-of bs s level n to end))) is-k
+      ∙ ap (λ (x : ℕ). then (component-of bs k level n at x to) (λ m. plus m (parts-of bs s level n to end))) (sym is-from)
+
+  pub part-fault : (e : ReadFault) → component-of bs k level n at from to ≡ Err e → parts-of bs s level n at end ≡ Err e
+  part-fault e r = part-is ∙ then-err (component-of bs k level n at from to) _ e r
+
+  pub part-ok : (m : ℕ) → component-of bs k level n at from to ≡ Ok m → parts-of bs s level n at end ≡ plus m (parts-of bs s level n to end)
+  part-ok m r = part-is ∙ go-then (component-of bs k level n at from to) _ r refl
+
+pub plus-zero : (r : Read ℕ) → plus 0 r ≡ r
+plus-zero (Ok n) = ap Ok (omega arith)
+plus-zero (Err e) = refl
+
+pub plus-plus : (m n : ℕ) (r : Read ℕ) → plus m (plus n r) ≡ plus (m + n) r
+plus-plus m n (Ok x) = ap Ok (omega arith)
+plus-plus m n (Err e) = refl
+
+-- an unknown component adds no row
+pub part-unknown : (bs : List ℕ) (s : Spot) (level n at end : ℕ) → at < end → end ≤ length bs → counted s ≡ false → sealed s ≡ false
+    → (to : ℕ) → O.ends bs (width s) level at end ≡ Ok to → kind-at s (getD bs at 0) ≡ 0 → parts-of bs s level n at end ≡ parts-of bs s level n to end
+part-unknown bs s level n at end h within c o to q k =
+    part-ok bs s level n at end h within c o to 0 q k (at + suc (width s)) refl 0 (component-unknown bs level n at (at + suc (width s)) to)
+    ∙ plus-zero (parts-of bs s level n to end)
+
+-- a node
+module _ (bs : List ℕ) (k level n at from to : ℕ) (known : 0 < k) (some : 1 ≤ level) (h : from ≤ to) (within : to ≤ length bs) (node : layout k .inside ≡ Node) where
+  node-level : deeper (layout k .inside) n ≡ suc n
+  node-level = rw node
+
+  pub node-deep : 8 ≤ n → component-of bs k level n at from to ≡ Err (TooDeep at level)
+  node-deep l = component-deep bs k level n at from to (omega arith) some h within (omega (arith, node-level))
+
+  node-plain : (is-count (layout k .fields) ≡ false) × (is-text (layout k .fields) ≡ false)
+  node-plain =
+      ( sym (counts-agree k) ∙ ap counted node
+      , by-cases (is-text (layout k .fields)) (λ t. let c = text-closed k t in let y : closed (layout k .inside) ≡ false = ap closed node in let z : _≡_ {A = ℕ} 0 1 = cc in absurd (omega arith)) (λ t. t) )
+
+  node-is : n < 8 → component-of bs k level n at from to ≡ then (fields-of bs (layout k) level at from to) (λ a. plus 1 (parts-of bs Node (level + 1) (n + 1) a to))
+  node-is l =
+      let e : suc level ≡ level + 1 = omega arith in
+      let d : deeper (layout k .inside) n ≡ n + 1 = omega (arith, node-level) in
+      component-held bs k level n at from to (omega arith) some h within (omega arith) (node-plain .0) (node-plain .1)
+      ∙ ap (λ (s : Spot). then (fields-of bs (layout k) level at from to) (λ a. plus 1 (parts-of bs s (suc level) (deeper (layout k .inside) n) a to))) node
+      ∙ ap₂ (λ (x y : ℕ). then (fields-of bs (layout k) level at from to) (λ a. plus 1 (parts-of bs Node x y a to))) e d
+
+  pub node-fault : n < 8 → (e : ReadFault) → fields-of bs (layout k) level at from to ≡ Err e → component-of bs k level n at from to ≡ Err e
+  node-fault l e q = node-is l ∙ then-err (fields-of bs (layout k) level at from to) _ e q
+
+  pub node-parts : n < 8 → (a : ℕ) → fields-of bs (layout k) level at from to ≡ Ok a → component-of bs k level n at from to ≡ plus 1 (parts-of bs Node (level + 1) (n + 1) a to)
+  node-parts l a q = node-is l ∙ go-then (fields-of bs (layout k) level at from to) _ q refl
+
+-- associated modes
+module _ (bs : List ℕ) (k level n at from to : ℕ) (known : 0 < k) (some : 1 ≤ level) (h : from ≤ to) (within : to ≤ length bs) (few : n ≤ 8)
+         (modes : is-count (layout k .fields) ≡ true) where
+  modes-is : component-of bs k level n at from to ≡ then (fields-of bs (layout k) level at from to) (λ a. plus 1 (nodes-of bs (getD bs from 0) (level + 1) n at a to))
+  modes-is =
+      let e : suc level ≡ level + 1 = omega arith in
+      let d : deeper (layout k .inside) n ≡ n = ap (λ (s : Spot). deeper s n) (associated-of (layout k .inside) (counts-agree k ∙ modes)) in
+      component-count bs k level n at from to (omega arith) some h within (omega arith) modes
+      ∙ ap (λ (x : ℕ). then (fields-of bs (layout k) level at from to) (λ a. plus 1 (nodes-of bs (getD bs from 0) x n at a to))) e
+
+  pub modes-fault : (e : ReadFault) → fields-of bs (layout k) level at from to ≡ Err e → component-of bs k level n at from to ≡ Err e
+  modes-fault e q = modes-is ∙ then-err (fields-of bs (layout k) level at from to) _ e q
+
+  pub modes-nodes : (a : ℕ) → fields-of bs (layout k) level at from to ≡ Ok a → component-of bs k level n at from to ≡ plus 1 (nodes-of bs (getD bs from 0) (level + 1) n at a to)
+  modes-nodes a q = modes-is ∙ go-then (fields-of bs (layout k) level at from to) _ q refl
+
+-- what is known in associated modes is a node
+pub only-nodes : (i k : ℕ) → kind-at Associated i ≡ k → 0 < k → (i ≡ 2) × (k ≡ 1)
+only-nodes i k e h =
+    by-cases (eqb i 2)
+      (λ q. let z : 1 ≡ k = rw (q, kind-at) at e in (eqb-true i 2 q, sym z))
+      (λ q. let z : 0 ≡ k = rw (q, kind-at) at e in absurd (omega arith))
+
+pub none-but-nodes : (i : ℕ) → kind-at Associated i ≡ 0 → i ≡ 2 → ⊥
+none-but-nodes i e q = let z : _≡_ {A = ℕ} 1 0 = subst (λ (x : ℕ). kind-at Associated x ≡ 0) q e in omega arith
+
+-- the byte of a count is among the fields
+pub count-there : (bs : List ℕ) (k level at from to a : ℕ) → is-count (layout k .fields) ≡ true → fields-of bs (layout k) level at from to ≡ Ok a → from < to
+count-there bs k level at from to a c h =
+    by-test (ltb to (from + O.least bs (layout k .fields) from)) _ _ h λ p e.
+    let l = ltb-false to (from + O.least bs (layout k .fields) from) p in
+    let one : O.least bs (layout k .fields) from ≡ 1 = ap (λ (x : Fields). O.least bs x from) (count-of (layout k .fields) c) in
+    omega arith
