@@ -1,16 +1,16 @@
 -- The test that numbers fit the fields says that they do.
 -- Assumes nothing.
-use mathlib.Core.Path.{_≡_, refl, ap}
-use mathlib.Core.Bool.{Bool, true, false, _&&_}
+use mathlib.Core.Path.{_≡_, ap}
+use mathlib.Core.Bool.{true}
 use Prim.Native.Nat.{ℕ, suc, _<_}
-use native.Mathlib.Omega.{arith}
 use lib.IntN.{ℤ, pos, negsuc}
-use borrow.Author.Tests.{ltb-true, lt-ltb, leb-true, le-leb, eqb-true, eq-eqb, clash}
+use borrow.Author.Tests.{ltb-true, lt-ltb, leb-true, le-leb, eqb-true, clash}
 use Rattle.std.proofs.shelf.Tests.{and-parts, and-from}
 use Rattle.grammar.specs.declared.table.Fields.{Fields}
 use Rattle.grammar.specs.declared.table.Fields.the-variants.{Nothing, Code, Text, Globe, Floor, Count, Radius, Height}
 use Rattle.grammar.specs.Format.{Fit, fits, between, ranges, up-to, below, is-zero}
 
+-- each test of a number, as what it says
 zero-is : (z : ℤ) → is-zero z ≡ true → z ≡ pos 0
 zero-is (pos x) h = ap pos (eqb-true x 0 h)
 zero-is (negsuc x) h = absurd (clash h)
@@ -30,10 +30,11 @@ ranges-is : (m n : ℕ) (z : ℤ) → ranges m n z ≡ true → between m n z
 ranges-is m n (pos x) h = leb-true x n h
 ranges-is m n (negsuc x) h = leb-true (suc x) m h
 
-pub ranges-from : (m n : ℕ) (z : ℤ) → between m n z → ranges m n z ≡ true
+ranges-from : (m n : ℕ) (z : ℤ) → between m n z → ranges m n z ≡ true
 ranges-from m n (pos x) h = le-leb x n h
 ranges-from m n (negsuc x) h = le-leb (suc x) m h
 
+-- the test passed, and a byte can count the parts
 pub fit-is : (f : Fields) (a b : ℤ) (n : ℕ) → fits f a b ≡ true → n < 256 → Fit f a b n
 fit-is Nothing a b n h k = let p = and-parts (is-zero a) (is-zero b) h in (zero-is a (p .0), zero-is b (p .1))
 fit-is Code a b n h k = let p = and-parts (below 256 a) (is-zero b) h in (below-is 256 a (p .0), zero-is b (p .1))
@@ -47,6 +48,7 @@ fit-is Radius a b n h k = let p = and-parts (below 65536 a) (is-zero b) h in (be
 fit-is Height a b n h k =
     let p = and-parts (below 256 a) (ranges 32768 32767 b) h in (below-is 256 a (p .0), ranges-is 32768 32767 b (p .1))
 
+-- the other way round
 pub fits-from : (f : Fields) (a b : ℤ) (n : ℕ) → Fit f a b n → fits f a b ≡ true
 fits-from Nothing a b n h = and-from _ _ (is-zero-from a (h .0)) (is-zero-from b (h .1))
 fits-from Code a b n h = and-from _ _ (below-from 256 a (h .0)) (is-zero-from b (h .1))

@@ -1,18 +1,18 @@
 -- Fields read from a part of the bytes tell what they tell by offset.
 -- Assumes nothing.
-use mathlib.Core.Path.{_≡_, refl, sym, _∙_, ap, subst}
+use mathlib.Core.Path.{_≡_, refl, sym, _∙_, ap}
 use mathlib.Core.Bool.{Bool, true, false, cond, _&&_, _||_, not}
 use mathlib.Core.List.{List}
-use Prim.Native.Nat.{ℕ, suc, _+_, _*_, _-_, _^_, _<_, _≤_}
+use Prim.Native.Nat.{ℕ, suc, _+_, _*_, _-_, _≤_}
 use native.Mathlib.Nat.{add-zero}
 use native.Mathlib.Omega.{arith}
-use lib.Dec.{eqb, ltb, leb}
+use lib.Dec.{ltb}
 use lib.IntN.{ℤ, pos, negsuc}
 use lib.ListN.{length, getD, take, drop, length-drop}
-use lib.Seq.{slice, take-all, length-take-le}
+use lib.Seq.{take-all, length-take-le}
 use mir.Syntax.{w32}
 use mir.Val.{toZ, sel}
-use borrow.Author.Tests.{ltb-true, ltb-false, le-ltb, lt-ltb, eq-eqb, clash}
+use borrow.Author.Tests.{ltb-true, ltb-false, le-ltb, lt-ltb, eq-eqb}
 use Rattle.std.proofs.shelf.Lists.{drop-take}
 use Rattle.std.proofs.shelf.Ways.{tells as ways}
 use Rattle.std.specs.declared.option.Option.{Option}
@@ -20,12 +20,12 @@ use Rattle.std.specs.declared.option.Option.the-variants.{Some, None}
 use Rattle.grammar.specs.declared.table.Fields.{Fields}
 use Rattle.grammar.specs.declared.table.Fields.the-variants.{Nothing, Code, Text, Globe, Floor, Count, Radius, Height}
 use Rattle.grammar.specs.Format.{fixed-bytes, ranges}
-use Rattle.grammar.specs.Reading.{if, number, signed, beyond, is-text, first-number, second-number, off-globe}
+use Rattle.grammar.specs.Reading.{if, number, signed, beyond, first-number, second-number, off-globe}
 use Rattle.grammar.specs.Offsets as O
 use Rattle.grammar.proofs.Cut.{by-cases}
-use Rattle.grammar.proofs.Slices.{same-test, slice-drop, value-slice}
-use Rattle.fields.specs.Shape.{Shape, extent, fitting, readable, unlaid, globe-shape}
-use Rattle.fields.specs.Told.{read-at, tells, told-at, numbers-at}
+use Rattle.grammar.proofs.Slices.{slice-drop, value-slice}
+use Rattle.fields.specs.Shape.{Shape, extent, fitting, unlaid, globe-shape}
+use Rattle.fields.specs.Told.{tells, told-at, numbers-at}
 use Rattle.fields.proofs.Laws.{Faithful}
 
 -- the n bytes at `at`
@@ -45,8 +45,9 @@ module _ (bs : List ℕ) (at n : ℕ) (h : at + n ≤ length bs) where
   signed-first : (k : ℕ) → k ≤ n → signed k (take n (drop at bs)) ≡ O.signed bs at k
   signed-first k l = rw (number-first k l)
 
+-- the fields whose bytes stand at `at`
 module _ (bs : List ℕ) (at : ℕ) where
-  pub first-in : (f : Fields) → at + fixed-bytes f ≤ length bs → first-number f (take (fixed-bytes f) (drop at bs)) ≡ O.first-number bs f at
+  first-in : (f : Fields) → at + fixed-bytes f ≤ length bs → first-number f (take (fixed-bytes f) (drop at bs)) ≡ O.first-number bs f at
   first-in Nothing h = refl
   first-in Code h = ap pos (number-first bs at 1 h 1 (omega arith))
   first-in Text h = refl
@@ -56,7 +57,7 @@ module _ (bs : List ℕ) (at : ℕ) where
   first-in Radius h = ap pos (number-first bs at 2 h 2 (omega arith))
   first-in Height h = ap pos (number-first bs at 3 h 1 (omega arith))
 
-  pub second-in : (f : Fields) → at + fixed-bytes f ≤ length bs → second-number f (take (fixed-bytes f) (drop at bs)) ≡ O.second-number bs f at
+  second-in : (f : Fields) → at + fixed-bytes f ≤ length bs → second-number f (take (fixed-bytes f) (drop at bs)) ≡ O.second-number bs f at
   second-in Nothing h = refl
   second-in Code h = refl
   second-in Text h = refl
@@ -102,6 +103,7 @@ halved half m =
     (λ q. let h = ltb-true m half q in rw (q, lt-ltb (m * 2) (half * 2) (omega arith)))
     (λ q. let h = ltb-false m half q in rw (q, le-ltb (m * 2) (half * 2) (omega arith)))
 
+-- on the globe is not beyond it
 ranges-beyond : (m : ℕ) (z : ℤ) → ranges m m z ≡ not (beyond m z)
 ranges-beyond m (pos x) = grind (arith, ways)
 ranges-beyond m (negsuc x) = grind (arith, ways)
@@ -113,11 +115,13 @@ fits-globe false false = refl
 
 -- the eight bytes of a place
 module _ (bs : List ℕ) (l : length bs ≡ 8) where
+  -- one of its two numbers, from its four bytes as the code joins them
   four-at : (i : ℕ) (z : ℤ)
       → z ≡ toZ w32 (getD bs i 0 * 16777216 + getD bs (suc i) 0 * 65536 + getD bs (suc (suc i)) 0 * 256 + getD bs (suc (suc (suc i))) 0)
       → O.signed bs i 4 ≡ z
   four-at i z e = sym (halved 2147483648 (O.value bs i 4)) ∙ ap (toZ w32) (omega arith) ∙ sym e
 
+  -- the numbers that the code makes of the bytes, if they are on the globe, are the place
   pub globe-read : (x y : ℤ)
       → x ≡ toZ w32 (getD bs 0 0 * 16777216 + getD bs 1 0 * 65536 + getD bs 2 0 * 256 + getD bs 3 0)
       → y ≡ toZ w32 (getD bs 4 0 * 16777216 + getD bs 5 0 * 65536 + getD bs 6 0 * 256 + getD bs 7 0)

@@ -13,6 +13,7 @@ ghost use Rattle.grammar.specs.Grammar.{Bytes};
 ghost use Rattle.fields.specs.Shape.{extent, fitting, laid, unlaid, code-shape, floor-shape, radius-shape, height-shape, globe-shape, count-shape};
 ghost use Rattle.fields.specs.Told.{read-at, told-at, numbers-at};
 use grammar::Fields;
+use std::marker::PhantomData;
 
 // The fixed fields of one kind of component.
 pub trait FixedFields {
@@ -88,61 +89,50 @@ fn only_byte(bytes: &[u8]) -> Option<u8>
     }
 }
 
-// A node's code: one byte.
-pub struct NodeCode;
+// A component's identifier, as a type.
+pub trait Identifier {
+    const ID: u8;
 
-pub impl FixedFields for NodeCode as NodeCodeFields {
-    type Value = u8;
+    // the identifier, for clauses
+    ghost named: { ℕ };
 
-    const ID: u8 = 2;
+    fn value() -> u8
+        ensures { λ r. ⌜ r ≡ named ⌝ };
+}
 
-    ghost valid = { fitting code-shape };
+// The identifier I.
+pub struct Id<const I: u8>;
 
-    ghost size = { extent code-shape };
+pub impl<const I: u8> Identifier for Id<I> as IdIdentifier {
+    const ID: u8 = I;
 
-    ghost identifier = { layout 1 .id };
+    ghost named = { I };
 
-    ghost written = { laid code-shape };
-
-    ghost reads = { unlaid code-shape };
-
-    fn identifier() -> u8 {
-        Self::ID
-    }
-
-    fn size() -> usize {
-        1
-    }
-
-    fn read(bytes: &[u8]) -> Option<u8> {
-        only_byte(bytes)
-    }
-
-    fn write(node: u8, out: &mut [u8]) -> bool {
-        put(&[node], out)
+    fn value() -> u8 {
+        I
     }
 }
 
-// A mode's code: one byte.
-pub struct ModeCode;
+// A code: one byte. Components of several identifiers hold one, so the identifier is a parameter.
+pub struct Code<K>(PhantomData<K>);
 
-pub impl FixedFields for ModeCode as ModeCodeFields {
+pub impl<K: Identifier> FixedFields for Code<K> as CodeFields {
     type Value = u8;
 
-    const ID: u8 = 0;
+    const ID: u8 = K::ID;
 
     ghost valid = { fitting code-shape };
 
     ghost size = { extent code-shape };
 
-    ghost identifier = { layout 10 .id };
+    ghost identifier = { K·Identifier .named };
 
     ghost written = { laid code-shape };
 
     ghost reads = { unlaid code-shape };
 
     fn identifier() -> u8 {
-        Self::ID
+        K::value()
     }
 
     fn size() -> usize {
@@ -153,9 +143,22 @@ pub impl FixedFields for ModeCode as ModeCodeFields {
         only_byte(bytes)
     }
 
-    fn write(mode: u8, out: &mut [u8]) -> bool {
-        put(&[mode], out)
+    fn write(code: u8, out: &mut [u8]) -> bool {
+        put(&[code], out)
     }
+}
+
+// A node's code.
+pub type NodeCode = Code<Id<2>>;
+
+// A mode's code.
+pub type ModeCode = Code<Id<0>>;
+
+// The identifiers of a node's code and of a mode's, which are those of the table.
+pub fn code_identifiers() -> (u8, u8)
+    ensures { λ r. ⌜ r ≡ (layout 1 .id, layout 10 .id) ⌝ }
+{
+    (NodeCode::identifier(), ModeCode::identifier())
 }
 
 // The floor of a node: one signed byte.
@@ -390,7 +393,7 @@ pub fn read_at<F: FixedFields>(bytes: &[u8], at: usize) -> Option<F::Value>
     F::read(&bytes[at..at + size])
 }
 
-// every code is read alike, whatever its identifier
+// Every code is read alike, whatever its identifier.
 fn code_at(bytes: &[u8], at: usize) -> Option<(i32, i32)>
     ensures { λ r. ⌜ r ≡ told-at code-shape (now (bytes .entry)) at ⌝ }
 {
@@ -425,7 +428,7 @@ fn globe_at(bytes: &[u8], at: usize) -> Option<(i32, i32)>
     read_at::<Globe>(bytes, at)
 }
 
-// a count is no number that is told
+// A count is no number that is told.
 fn count_at(bytes: &[u8], at: usize) -> Option<(i32, i32)>
     ensures { λ r. ⌜ r ≡ told-at count-shape (now (bytes .entry)) at ⌝ }
 {

@@ -10,3 +10,4 @@ pub mod Slices
 pub mod Same
 pub mod Steps
 pub mod Walked
+pub mod Exact

@@ -180,11 +180,11 @@ found-line t all none s i h =
     let l : Layout = layout (kind-at s i) in
     let both = line-at (λ (l : Layout). t (l .holder) l && (closed (l .again) || t (l .again) l)) blank (and-in _ _ none (tt)) table all (kind-at s i) in
     ⊎-elim
-      (λ e. subst (λ (x : Spot). T (t x l)) e (both-left _ _ both))
-      (λ e.
-        let u : T (closed s || t s l) = subst (λ (x : Spot). T (closed x || t x l)) e (both-right _ _ both) in
-        rw (not-closed s (at .0)) at u)
-      (at .1)
+    (λ e. subst (λ (x : Spot). T (t x l)) e (both-left _ _ both))
+    (λ e.
+    let u : T (closed s || t s l) = subst (λ (x : Spot). T (closed x || t x l)) e (both-right _ _ both) in
+    rw (not-closed s (at .0)) at u)
+    (at .1)
   where
     and-in : (a b : Bool) → T a → T b → T (a && b)
     and-in true b x y = y
@@ -201,7 +201,7 @@ at-node s = eqb (spot-number s) 1
 pub node-leafy : (i : ℕ) → (kind-at Node i ≡ 0 → ⊥) → is-count (layout (kind-at Node i) .fields) ≡ false → leafy (layout (kind-at Node i) .inside) ≡ true
 node-leafy i h c =
     let t = implied (at-node Node) (is-count (layout (kind-at Node i) .fields) || leafy (layout (kind-at Node i) .inside))
-        (found-line (λ (x : Spot) (l : Layout). not (at-node x) || (is-count (l .fields) || leafy (l .inside))) tt tt Node i h) refl in
+    (found-line (λ (x : Spot) (l : Layout). not (at-node x) || (is-count (l .fields) || leafy (l .inside))) tt tt Node i h) refl in
     rw c at t
 
 -- nothing but nodes stands among the descriptions and in associated modes

@@ -309,13 +309,13 @@ pub data-closed : (bs : List ℕ) (k level at from to a : ℕ) → closed (layou
 data-closed bs k level at from to a c h =
     by-then (fields-of bs (layout k) level at from to) _ h λ b e h₁.
     by-cases (is-text (layout k .fields))
-      (λ t. let h₂ = rw t at h₁ in by-then (tail-of bs (suc level) None b to) _ h₂ λ l e₂ h₃. sym (ok-ok h₃))
-      (λ t.
-        by-test (ltb to (from + O.least bs (layout k .fields) from)) _ _ e λ p e₁.
-        by-test (O.ends-there (layout k) && not (eqb to (from + O.least bs (layout k .fields) from))) _ _ e₁ λ q e₂.
-        by-test (O.off-globe bs (layout k .fields) from) _ _ e₂ λ r e₃.
-        let f : to ≡ from + O.least bs (layout k .fields) from = eqb-true _ _ (not-false _ (rw (c, t) at q)) in
-        sym (f ∙ ok-ok e₃ ∙ ok-ok (rw t at h₁)))
+    (λ t. let h₂ = rw t at h₁ in by-then (tail-of bs (suc level) None b to) _ h₂ λ l e₂ h₃. sym (ok-ok h₃))
+    (λ t.
+    by-test (ltb to (from + O.least bs (layout k .fields) from)) _ _ e λ p e₁.
+    by-test (O.ends-there (layout k) && not (eqb to (from + O.least bs (layout k .fields) from))) _ _ e₁ λ q e₂.
+    by-test (O.off-globe bs (layout k .fields) from) _ _ e₂ λ r e₃.
+    let f : to ≡ from + O.least bs (layout k .fields) from = eqb-true _ _ (not-false _ (rw (c, t) at q)) in
+    sym (f ∙ ok-ok e₃ ∙ ok-ok (rw t at h₁)))
 
 leafy-deeper : (s : Spot) (n : ℕ) → leafy s ≡ true → deeper s n ≡ n
 leafy-deeper Descriptions n h = refl
@@ -346,7 +346,7 @@ then-err r f e q = rw q
 
 -- a component that holds leaves at most
 module _ (bs : List ℕ) (k level n at from to : ℕ) (known : 0 < k) (some : 1 ≤ level) (h : from ≤ to) (within : to ≤ length bs)
-         (leaf : leafy (layout k .inside) ≡ true) (few : n ≤ 8) where
+    (leaf : leafy (layout k .inside) ≡ true) (few : n ≤ 8) where
   flat-is : component-of bs k level n at from to ≡ then (data-of bs (layout k) level at from to) (λ a. plus 1 (parts-of bs (layout k .inside) (level + 1) n a to))
   flat-is =
       let d = leafy-deeper (layout k .inside) n leaf in
@@ -373,7 +373,7 @@ module _ (bs : List ℕ) (k level n at from to : ℕ) (known : 0 < k) (some : 1 
 
 -- one component of a holder's parts, and the count of those before it
 module _ (bs : List ℕ) (s : Spot) (level n at end : ℕ) (h : at < end) (within : end ≤ length bs) (c : counted s ≡ false) (o : sealed s ≡ false)
-         (to k : ℕ) (q : O.ends bs (width s) level at end ≡ Ok to) (is-k : kind-at s (getD bs at 0) ≡ k) (from : ℕ) (is-from : from ≡ at + suc (width s)) where
+    (to k : ℕ) (q : O.ends bs (width s) level at end ≡ Ok to) (is-k : kind-at s (getD bs at 0) ≡ k) (from : ℕ) (is-from : from ≡ at + suc (width s)) where
   part-is : parts-of bs s level n at end ≡ then (component-of bs k level n at from to) (λ m. plus m (parts-of bs s level n to end))
   part-is =
       parts-part bs s level n at end h within c o to q
@@ -410,9 +410,10 @@ module _ (bs : List ℕ) (k level n at from to : ℕ) (known : 0 < k) (some : 1 
   node-deep l = component-deep bs k level n at from to (omega arith) some h within (omega (arith, node-level))
 
   node-plain : (is-count (layout k .fields) ≡ false) × (is-text (layout k .fields) ≡ false)
-  node-plain =
-      ( sym (counts-agree k) ∙ ap counted node
-      , by-cases (is-text (layout k .fields)) (λ t. let c = text-closed k t in let y : closed (layout k .inside) ≡ false = ap closed node in let z : _≡_ {A = ℕ} 0 1 = cc in absurd (omega arith)) (λ t. t) )
+  node-plain = (
+    sym (counts-agree k) ∙ ap counted node,
+    by-cases (is-text (layout k .fields)) (λ t. let c = text-closed k t in let y : closed (layout k .inside) ≡ false = ap closed node in let z : _≡_ {A = ℕ} 0 1 = cc in absurd (omega arith)) (λ t. t),
+  )
 
   node-is : n < 8 → component-of bs k level n at from to ≡ then (fields-of bs (layout k) level at from to) (λ a. plus 1 (parts-of bs Node (level + 1) (n + 1) a to))
   node-is l =
@@ -430,7 +431,7 @@ module _ (bs : List ℕ) (k level n at from to : ℕ) (known : 0 < k) (some : 1 
 
 -- associated modes
 module _ (bs : List ℕ) (k level n at from to : ℕ) (known : 0 < k) (some : 1 ≤ level) (h : from ≤ to) (within : to ≤ length bs) (few : n ≤ 8)
-         (modes : is-count (layout k .fields) ≡ true) where
+    (modes : is-count (layout k .fields) ≡ true) where
   modes-is : component-of bs k level n at from to ≡ then (fields-of bs (layout k) level at from to) (λ a. plus 1 (nodes-of bs (getD bs from 0) (level + 1) n at a to))
   modes-is =
       let e : suc level ≡ level + 1 = omega arith in
@@ -448,8 +449,8 @@ module _ (bs : List ℕ) (k level n at from to : ℕ) (known : 0 < k) (some : 1 
 pub only-nodes : (i k : ℕ) → kind-at Associated i ≡ k → 0 < k → (i ≡ 2) × (k ≡ 1)
 only-nodes i k e h =
     by-cases (eqb i 2)
-      (λ q. let z : 1 ≡ k = rw (q, kind-at) at e in (eqb-true i 2 q, sym z))
-      (λ q. let z : 0 ≡ k = rw (q, kind-at) at e in absurd (omega arith))
+    (λ q. let z : 1 ≡ k = rw (q, kind-at) at e in (eqb-true i 2 q, sym z))
+    (λ q. let z : 0 ≡ k = rw (q, kind-at) at e in absurd (omega arith))
 
 pub none-but-nodes : (i : ℕ) → kind-at Associated i ≡ 0 → i ≡ 2 → ⊥
 none-but-nodes i e q = let z : _≡_ {A = ℕ} 1 0 = subst (λ (x : ℕ). kind-at Associated x ≡ 0) q e in omega arith

@@ -28,6 +28,7 @@ use Rattle.grammar.proofs.Cut.{by-cases, by-test, by-then, err-ok, ok-ok, pass
 use Rattle.grammar.proofs.Lines.{both-left, both-right, line-at, found-by-id, counts-agree, text-closed}
 use Rattle.grammar.proofs.Complete.{is-nowhere}
 use Rattle.grammar.proofs.Same.{width-some, count-of, associated-of, node-kind}
+use Rattle.grammar.proofs.Steps.{ends-within}
 
 -- the two ways of a test, with the same on each
 same-ways : {X : Type 0} (b : Bool) (u v x y : Unit {0} → X) → (b ≡ true → u tt ≡ v tt) → (b ≡ false → x tt ≡ y tt) → if b u x ≡ if b v y
@@ -46,17 +47,7 @@ same-read (Ok x) y f g h = h x refl
 same-read (Err e) y f g h = refl
 
 module _ (bs : List ℕ) where
-  -- a component's end keeps to its holder's, and leaves room for its header
-  pub ends-within : (w level at end to : ℕ) → O.ends bs w level at end ≡ Ok to → (at + suc w ≤ to) × (to ≤ end)
-  ends-within w level at end to h =
-      by-test (ltb end (at + suc w)) _ _ h λ q₁ h₁.
-      by-test (ltb end (at + suc w + O.value bs (suc at) w)) _ _ h₁ λ q₂ h₂.
-      let a = ltb-false end (at + suc w) q₁ in
-      let b = ltb-false end (at + suc w + O.value bs (suc at) w) q₂ in
-      let e = ok-ok h₂ in
-      (omega arith, omega arith)
-
-  -- it is the same at every level
+  -- a component's end is the same at every level
   pub ends-level : (w level at end to other : ℕ) → O.ends bs w level at end ≡ Ok to → O.ends bs w other at end ≡ Ok to
   ends-level w level at end to other h =
       by-test (ltb end (at + suc w)) _ _ h λ q₁ h₁.
@@ -76,9 +67,10 @@ module _ (bs : List ℕ) (d : ℕ) where
       (λ _. same-ways (ltb to (from + O.least bs (layout k .fields) from)) _ _ _ _ (λ _. refl)
       (λ q.
       let r = ltb-false to (from + O.least bs (layout k .fields) from) q in
-      same-ways (closed (layout k .inside)) _ _ _ _ (λ _. ap (λ (rs : List Row). row-at bs d (length fs) k from to ∷ rs) (same (frame ∷ fs) to (omega arith)))
+      same-ways (O.off-globe bs (layout k .fields) from) _ _ _ _ (λ _. refl)
+      (λ _. same-ways (closed (layout k .inside)) _ _ _ _ (λ _. ap (λ (rs : List Row). row-at bs d (length fs) k from to ∷ rs) (same (frame ∷ fs) to (omega arith)))
       (λ _. same-ways (leb most-frames (length (frame ∷ fs))) _ _ _ _ (λ _. refl)
-      (λ _. ap (λ (rs : List Row). row-at bs d (length fs) k from to ∷ rs) (same _ _ (omega arith))))))
+      (λ _. ap (λ (rs : List Row). row-at bs d (length fs) k from to ∷ rs) (same _ _ (omega arith)))))))
 
   turn-same : (f g : List Frame → ℕ → List Row) (frame : Frame) (fs : List Frame) (at : ℕ)
       → ((fs′ : List Frame) (at′ : ℕ) → left fs′ at′ < left (frame ∷ fs) at → f fs′ at′ ≡ g fs′ at′)
@@ -158,9 +150,10 @@ module _ (bs : List ℕ) (d : ℕ) where
         (e : kind-at (frame .spot) (getD bs at 0) ≡ k) (z : 0 < k) (f : at + suc (width (frame .spot)) ≡ from) where
       rows-known : rows-from bs d (frame ∷ fs) at
           ≡ if (ltb to (from + O.least bs (layout k .fields) from)) (λ _. [])
+          (λ _. if (O.off-globe bs (layout k .fields) from) (λ _. [])
           (λ _. if (closed (layout k .inside)) (λ _. row-at bs d (length fs) k from to ∷ rows-from bs d (frame ∷ fs) to)
           (λ _. if (leb most-frames (length (frame ∷ fs))) (λ _. [])
-          (λ _. row-at bs d (length fs) k from to ∷ rows-from bs d (record { end = to; spot = layout k .inside } ∷ frame ∷ fs) (from + O.least bs (layout k .fields) from))))
+          (λ _. row-at bs d (length fs) k from to ∷ rows-from bs d (record { end = to; spot = layout k .inside } ∷ frame ∷ fs) (from + O.least bs (layout k .fields) from)))))
       rows-known =
           rows-met to k h l r e
           ∙ ap (λ (i : ℕ). met bs d (rows-from bs d) frame fs k i to) f
@@ -170,34 +163,43 @@ module _ (bs : List ℕ) (d : ℕ) where
       pub rows-short : to < from + O.least bs (layout k .fields) from → rows-from bs d (frame ∷ fs) at ≡ []
       rows-short s = rows-known ∙ first-way (ltb to (from + O.least bs (layout k .fields) from)) _ _ (lt-ltb _ _ s) refl
 
-      -- nothing stands in it
-      pub rows-leaf : from + O.least bs (layout k .fields) from ≤ to → closed (layout k .inside) ≡ true
-          → rows-from bs d (frame ∷ fs) at ≡ row-at bs d (length fs) k from to ∷ rows-from bs d (frame ∷ fs) to
-      rows-leaf s c =
+      -- its numbers are off the globe
+      pub rows-off : from + O.least bs (layout k .fields) from ≤ to → O.off-globe bs (layout k .fields) from ≡ true → rows-from bs d (frame ∷ fs) at ≡ []
+      rows-off s o =
           rows-known
           ∙ other-way (ltb to (from + O.least bs (layout k .fields) from)) _ _ (le-ltb _ _ s)
-          (first-way (closed (layout k .inside)) _ _ c refl)
+          (first-way (O.off-globe bs (layout k .fields) from) _ _ o refl)
+
+      -- nothing stands in it
+      pub rows-leaf : from + O.least bs (layout k .fields) from ≤ to → O.off-globe bs (layout k .fields) from ≡ false → closed (layout k .inside) ≡ true
+          → rows-from bs d (frame ∷ fs) at ≡ row-at bs d (length fs) k from to ∷ rows-from bs d (frame ∷ fs) to
+      rows-leaf s o c =
+          rows-known
+          ∙ other-way (ltb to (from + O.least bs (layout k .fields) from)) _ _ (le-ltb _ _ s)
+          (other-way (O.off-globe bs (layout k .fields) from) _ _ o (first-way (closed (layout k .inside)) _ _ c refl))
 
       -- there is no room for another holder
-      pub rows-full : from + O.least bs (layout k .fields) from ≤ to → closed (layout k .inside) ≡ false → most-frames ≤ length (frame ∷ fs)
+      pub rows-full : from + O.least bs (layout k .fields) from ≤ to → O.off-globe bs (layout k .fields) from ≡ false → closed (layout k .inside) ≡ false → most-frames ≤ length (frame ∷ fs)
           → rows-from bs d (frame ∷ fs) at ≡ []
-      rows-full s c m =
+      rows-full s o c m =
           rows-known
           ∙ other-way (ltb to (from + O.least bs (layout k .fields) from)) _ _ (le-ltb _ _ s)
+          (other-way (O.off-globe bs (layout k .fields) from) _ _ o
           (other-way (closed (layout k .inside)) _ _ c
-          (first-way (leb most-frames (length (frame ∷ fs))) _ _ (le-leb _ _ m) refl))
+          (first-way (leb most-frames (length (frame ∷ fs))) _ _ (le-leb _ _ m) refl)))
 
       -- it is a holder, whose parts come next
-      pub rows-holder : (start : ℕ) → from + O.least bs (layout k .fields) from ≡ start → start ≤ to → closed (layout k .inside) ≡ false
+      pub rows-holder : (start : ℕ) → from + O.least bs (layout k .fields) from ≡ start → start ≤ to → O.off-globe bs (layout k .fields) from ≡ false → closed (layout k .inside) ≡ false
           → length (frame ∷ fs) < most-frames
           → rows-from bs d (frame ∷ fs) at
           ≡ row-at bs d (length fs) k from to ∷ rows-from bs d (record { end = to; spot = layout k .inside } ∷ frame ∷ fs) start
-      rows-holder start b s c m =
+      rows-holder start b s o c m =
           rows-known
           ∙ other-way (ltb to (from + O.least bs (layout k .fields) from)) _ _ (le-ltb _ _ (omega arith))
+          (other-way (O.off-globe bs (layout k .fields) from) _ _ o
           (other-way (closed (layout k .inside)) _ _ c
           (other-way (leb most-frames (length (frame ∷ fs))) _ _ (lt-leb _ _ m)
-          (ap (λ (i : ℕ). row-at bs d (length fs) k from to ∷ rows-from bs d (record { end = to; spot = layout k .inside } ∷ frame ∷ fs) i) b)))
+          (ap (λ (i : ℕ). row-at bs d (length fs) k from to ∷ rows-from bs d (record { end = to; spot = layout k .inside } ∷ frame ∷ fs) i) b))))
 
 -- what a spot adds to two holders for each node
 abbrev extra : Spot → ℕ
@@ -431,7 +433,7 @@ module _ (bs : List ℕ) (d : ℕ) where
         by-cases (is-text (layout k .fields))
         (λ t.
         by-then (O.tail bs g (suc level) None (from + O.least bs Text from) to) _ (rw t at p₄) λ language e₁ p₅.
-        rows-leaf bs d frame fs at to k from l h r e (omega arith) refl fits (text-closed k t)
+        rows-leaf bs d frame fs at to k from l h r e (omega arith) refl fits q₄ (text-closed k t)
         ∙ ap (λ (row : Row). row ∷ rows-from bs d (frame ∷ fs) to)
         (row-text (length fs) k from to language t (tail-free bs g (length bs) (suc level) 0 None (from + O.least bs Text from) to language (omega arith) (omega arith) e₁))
         ∙ ap (λ (rs : List Row). rs ++ rows-from bs d (frame ∷ fs) to) (ok-ok p₅))
@@ -448,13 +450,13 @@ module _ (bs : List ℕ) (d : ℕ) where
         by-cases (closed (layout k .inside))
         (λ c.
         let full : to ≡ start = eqb-true to start (not-false _ (rw (c, t) at q₃)) in
-        rows-leaf bs d frame fs at to k from l h r e (omega arith) refl fits c
+        rows-leaf bs d frame fs at to k from l h r e (omega arith) refl fits q₄ c
         ∙ ap (λ (rs : List Row). row ∷ (rs ++ rest)) (sym (none-inside g k n from to inner (suc (length fs)) (suc level) at c full e₁))
         ∙ last)
         (λ c.
         let grown = room-grows s (getD bs at 0) k n e (omega arith) c in
         let most = room-most (layout k .inside) (deeper (layout k .inside) n) (ltb-false 8 _ q₁) in
-        rows-holder bs d frame fs at to k from l h r e (omega arith) refl start refl fits c (omega arith)
+        rows-holder bs d frame fs at to k from l h r e (omega arith) refl start refl fits q₄ c (omega arith)
         ∙ ap (λ (rs : List Row). row ∷ rs) (inner-told (layout k .fields) (layout k .inside) (suc level) n at from to inner (frame ∷ fs) (counts-agree k) fits (omega arith) (omega arith) (omega arith) e₁)
         ∙ last)))
 

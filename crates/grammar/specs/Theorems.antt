@@ -3,6 +3,7 @@ use mathlib.Core.Path.{_≡_}
 use mathlib.Core.Logic.{_⊎_}
 use mathlib.Core.List.{List}
 use Prim.Native.Nat.{ℕ}
+use lib.ListN.{length}
 use Rattle.std.specs.declared.result.Result.the-variants.{Ok, Err}
 use Rattle.grammar.specs.declared.fault.ReadFault.{ReadFault}
 use Rattle.grammar.specs.declared.table.Spot.{Spot}
@@ -51,6 +52,11 @@ Made-of-bytes = (bytes : List ℕ) (rows : List Row) → Tells bytes rows → By
 -- bytes tell one list of rows at most
 abbrev pub One-meaning : Type 0
 One-meaning = (bytes : List ℕ) (r s : List Row) → Tells bytes r → Tells bytes s → r ≡ s
+
+-- an answer of n rows says that the bytes are a legal container that tells n rows, and a fault says that they are none
+abbrev pub Told-exactly : List ℕ → Read ℕ → Type 0
+Told-exactly bytes (Ok n) = (rows : List Row) × Tells bytes rows × (length rows ≡ n)
+Told-exactly bytes (Err f) = Legal bytes → ⊥
 
 abbrev pub Accepts-exactly : Type 0
 Accepts-exactly = Sound × Complete × Refuses-rightly × Made-of-bytes × One-meaning

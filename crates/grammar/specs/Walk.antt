@@ -47,9 +47,10 @@ module _ (bs : List ℕ) (default : ℕ) where
   met next frame fs k from to =
       if (eqb k 0) (λ _. next (frame ∷ fs) to)
       (λ _. if (ltb to (from + O.least bs (layout k .fields) from)) (λ _. [])
+      (λ _. if (O.off-globe bs (layout k .fields) from) (λ _. [])
       (λ _. if (closed (layout k .inside)) (λ _. row-at (length fs) k from to ∷ next (frame ∷ fs) to)
       (λ _. if (leb most-frames (length (frame ∷ fs))) (λ _. [])
-      (λ _. row-at (length fs) k from to ∷ next (record { end = to; spot = layout k .inside } ∷ frame ∷ fs) (from + O.least bs (layout k .fields) from)))))
+      (λ _. row-at (length fs) k from to ∷ next (record { end = to; spot = layout k .inside } ∷ frame ∷ fs) (from + O.least bs (layout k .fields) from))))))
 
   -- one turn of the walk: a forged holder ends it, a done one is left, and otherwise a component is met
   abbrev pub turn : (next : List Frame → ℕ → List Row) (frame : Frame) (fs : List Frame) (at : ℕ) → List Row

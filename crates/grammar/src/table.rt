@@ -4,7 +4,7 @@ ghost use Prim.Native.Nat.{ℕ};
 ghost use lib.ListN.{getD};
 ghost use Rattle.grammar.specs.Format.{blank, layout, kind-at, width as width-at, some-kind};
 ghost use Rattle.grammar.specs.Offsets.{ends-there};
-ghost use Rattle.grammar.specs.Reading.{is-text, is-count};
+ghost use Rattle.grammar.specs.Reading.{is-text, is-count, closed};
 ghost use Rattle.grammar.specs.Theorems.{Table-rule};
 
 // Where a component stands. Each spot has identifiers of its own.
@@ -299,7 +299,7 @@ impl Layout {
     pub fn ends_there(self) -> bool
         ensures { λ r. ⌜ r ≡ ends-there self ⌝ }
     {
-        matches!(self.inside, Spot::Nowhere) && !self.is_text()
+        self.inside.is_closed() && !self.is_text()
     }
 }
 
@@ -312,6 +312,13 @@ impl Spot {
             Spot::Descriptions | Spot::Node | Spot::Associated => 2,
             Spot::Reference | Spot::Place | Spot::Modes | Spot::Nowhere => 1,
         }
+    }
+
+    // Whether nothing may stand here.
+    pub fn is_closed(self) -> bool
+        ensures { λ r. ⌜ r ≡ closed self ⌝ }
+    {
+        matches!(self, Spot::Nowhere)
     }
 
     // The kind that an identifier stands for here, if it is known. Identifiers of a spot are consecutive, so this is no search.

@@ -30,8 +30,8 @@ module _ (bs : List ℕ) (k : ℕ) where
   pub least-over : (i : ℕ) → layout k .fixed ≤ O.least bs (layout k .fields) i
   least-over i =
       by-cases (is-text (layout k .fields))
-        (λ t. let e = least-text bs k i t in omega arith)
-        (λ t. let e = least-fixed bs k i t in omega arith)
+      (λ t. let e = least-text bs k i t in omega arith)
+      (λ t. let e = least-fixed bs k i t in omega arith)
 
   -- a text has one byte for its length
   pub text-fixed : is-text (layout k .fields) ≡ true → layout k .fixed ≡ 1
@@ -49,18 +49,18 @@ module _ (bs : List ℕ) (k : ℕ) where
     pub room-some : (size : ℕ) → Some size ≡ room-for bs (layout k .fields) from to → (size ≡ O.least bs (layout k .fields) from) × (from + size ≤ to)
     room-some size h =
         by-cases (ltb to (from + O.least bs (layout k .fields) from))
-          (λ q. let z : _≡_ {A = Option ℕ} (Some size) None = rw q at h in let y : _≡_ {A = ℕ} 0 1 = cc in absurd (omega arith))
-          (λ q.
-            let z : _≡_ {A = Option ℕ} (Some size) (Some (O.least bs (layout k .fields) from)) = rw q at h in
-            let e : size ≡ O.least bs (layout k .fields) from = cc in
-            let l = ltb-false to (from + O.least bs (layout k .fields) from) q in
-            (e, omega arith))
+        (λ q. let z : _≡_ {A = Option ℕ} (Some size) None = rw q at h in let y : _≡_ {A = ℕ} 0 1 = cc in absurd (omega arith))
+        (λ q.
+        let z : _≡_ {A = Option ℕ} (Some size) (Some (O.least bs (layout k .fields) from)) = rw q at h in
+        let e : size ≡ O.least bs (layout k .fields) from = cc in
+        let l = ltb-false to (from + O.least bs (layout k .fields) from) q in
+        (e, omega arith))
 
     pub room-short : None ≡ room-for bs (layout k .fields) from to → to < from + O.least bs (layout k .fields) from
     room-short h =
         by-cases (ltb to (from + O.least bs (layout k .fields) from))
-          (λ q. ltb-true to (from + O.least bs (layout k .fields) from) q)
-          (λ q. let z : _≡_ {A = Option ℕ} None (Some (O.least bs (layout k .fields) from)) = rw q at h in let y : _≡_ {A = ℕ} 0 1 = cc in absurd (omega arith))
+        (λ q. ltb-true to (from + O.least bs (layout k .fields) from) q)
+        (λ q. let z : _≡_ {A = Option ℕ} None (Some (O.least bs (layout k .fields) from)) = rw q at h in let y : _≡_ {A = ℕ} 0 1 = cc in absurd (omega arith))
 
     -- a known size leaves nothing over where nothing may follow
     module _ (size : ℕ) (h : Some size ≡ room-for bs (layout k .fields) from to) where
@@ -84,8 +84,8 @@ module _ (bs : List ℕ) (k : ℕ) where
             let l = least-over from in
             let short : ltb (length bs) (from + fixed-bytes (layout k .fields)) ≡ false = le-ltb _ _ (omega arith) in
             by-cases (O.off-globe bs (layout k .fields) from)
-              (λ g. let z : isSome o ≡ false = rw (short, g) at (ap isSome e) in g ∙ ap not (sym z ∙ y))
-              (λ g. let z : isSome o ≡ true = rw (short, g) at (ap isSome e) in g ∙ ap not (sym z ∙ y))
+            (λ g. let z : isSome o ≡ false = rw (short, g) at (ap isSome e) in g ∙ ap not (sym z ∙ y))
+            (λ g. let z : isSome o ≡ true = rw (short, g) at (ap isSome e) in g ∙ ap not (sym z ∙ y))
 
         pub passed-globe : (o : Option (ℤ × ℤ)) → o ≡ numbers-at (layout k .fields) bs from → isSome o ≡ false → Err (OffGlobe at level) ≡ fields-of bs (layout k) level at from to
         passed-globe o e y =

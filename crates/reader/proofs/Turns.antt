@@ -91,7 +91,7 @@ module _ (bs : List ℕ) (level n own at end rows : ℕ) (total : Read ℕ) wher
 
 -- What a component tells, by what was counted of it so far.
 module _ (bs : List ℕ) (k level n at from to : ℕ) (known : 0 < k) (some : 1 ≤ level) (h : from ≤ to) (within : to ≤ length bs)
-         (start stop : ℕ) (is-start : start ≡ from) (is-stop : stop ≡ to) where
+    (start stop : ℕ) (is-start : start ≡ from) (is-stop : stop ≡ to) where
   fields-there : (r : Read ℕ) → fields-of bs (layout k) level at start stop ≡ r → fields-of bs (layout k) level at from to ≡ r
   fields-there r q = ap₂ (λ (x y : ℕ). fields-of bs (layout k) level at x y) (sym is-start) (sym is-stop) ∙ q
 

@@ -67,7 +67,12 @@ pub struct Part {
 }
 
 // Reads the header at the reader's place and looks the identifier up; an unknown component is passed over.
-pub fn open_part(bytes: &[u8], reader: &mut Reader, spot: Spot, level: u8) -> Result<Option<Part>, ReadFault>
+pub fn open_part(
+    bytes: &[u8],
+    reader: &mut Reader,
+    spot: Spot,
+    level: u8,
+) -> Result<Option<Part>, ReadFault>
     requires some { ⌜ now reader .at < now reader .end ⌝ }
     requires within { ⌜ now reader .end ≤ length (now bytes) ⌝ }
     ensures edge { λ _. ⌜ now (reader .exit) .end ≡ now (reader .entry) .end ⌝ }
@@ -118,7 +123,11 @@ fn least_at(bytes: &[u8], at: usize, kind: u8) -> usize
 {
     let layout = layout_of(kind);
     let fixed = usize::from(layout.fixed);
-    if layout.is_text() { fixed + usize::from(bytes[at]) } else { fixed }
+    if layout.is_text() {
+        fixed + usize::from(bytes[at])
+    } else {
+        fixed
+    }
 }
 
 // The same, if they end before the reader's edge.
@@ -136,7 +145,13 @@ pub fn fields_size(bytes: &[u8], reader: &Reader, kind: u8) -> Option<usize>
 }
 
 // Passes the fixed fields of the component at `place`, whose data the reader stands at, and answers where its parts begin.
-pub fn pass_fields(bytes: &[u8], reader: &mut Reader, kind: u8, place: usize, level: u8) -> Result<usize, ReadFault>
+pub fn pass_fields(
+    bytes: &[u8],
+    reader: &mut Reader,
+    kind: u8,
+    place: usize,
+    level: u8,
+) -> Result<usize, ReadFault>
     requires order { ⌜ now reader .at ≤ now reader .end ⌝ }
     requires within { ⌜ now reader .end ≤ length (now bytes) ⌝ }
     ensures value { λ r. ⌜ r ≡ fields-of (now (bytes .entry)) (layout kind) level place (now (reader .entry) .at) (now (reader .entry) .end) ⌝ }
@@ -158,7 +173,13 @@ pub fn pass_fields(bytes: &[u8], reader: &mut Reader, kind: u8, place: usize, le
 }
 
 // The same past a text's own components too.
-pub fn pass_data(bytes: &[u8], reader: &mut Reader, kind: u8, place: usize, level: u8) -> Result<usize, ReadFault>
+pub fn pass_data(
+    bytes: &[u8],
+    reader: &mut Reader,
+    kind: u8,
+    place: usize,
+    level: u8,
+) -> Result<usize, ReadFault>
     requires order { ⌜ now reader .at ≤ now reader .end ⌝ }
     requires within { ⌜ now reader .end ≤ length (now bytes) ⌝ }
     requires levels { ⌜ level < 255 ⌝ }

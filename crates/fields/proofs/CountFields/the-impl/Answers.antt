@@ -1,3 +1,4 @@
+-- The laws hold of every faithful shape, and so of this one.
 use Rattle.fields.specs.Shape.{count-shape}
 use Rattle.fields.proofs.Laws.{faithful-count, back, only, good, long}
 use Rattle.fields.proofs.CountFields.the-impl.Needs as need

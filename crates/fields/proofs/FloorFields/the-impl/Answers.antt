@@ -1,3 +1,4 @@
+-- The laws hold of every faithful shape, and so of this one.
 use Rattle.fields.specs.Shape.{floor-shape}
 use Rattle.fields.proofs.Laws.{faithful-floor, back, only, good, long}
 use Rattle.fields.proofs.FloorFields.the-impl.Needs as need

@@ -1,3 +1,4 @@
+-- The laws hold of every faithful shape, and so of this one.
 use Rattle.fields.specs.Shape.{globe-shape}
 use Rattle.fields.proofs.Laws.{faithful-globe, back, only, good, long}
 use Rattle.fields.proofs.GlobeFields.the-impl.Needs as need

@@ -1,3 +1,4 @@
+-- The laws hold of every faithful shape, and so of this one.
 use Rattle.fields.specs.Shape.{height-shape}
 use Rattle.fields.proofs.Laws.{faithful-height, back, only, good, long}
 use Rattle.fields.proofs.HeightFields.the-impl.Needs as need

@@ -1,3 +1,4 @@
+-- The laws hold of every faithful shape, and so of this one.
 use Rattle.fields.specs.Shape.{radius-shape}
 use Rattle.fields.proofs.Laws.{faithful-radius, back, only, good, long}
 use Rattle.fields.proofs.RadiusFields.the-impl.Needs as need

@@ -22,15 +22,16 @@ returns-then-is-none c =
     let to = c .args .reader .now .end in
     let h = c .in-Some .ensures tt in
     let q : (ends-there (layout k) && not (eqb to (from + least bs (layout k .fields) from))) ≡ false =
-        elim (c .else-ends-there .came)
-        [ else-ends-there·by·then-ends-there·else-size-reader w ↦ fills bs k from to (c .in-Some .size) h (omega (arith, w .if-size-reader .left))
-        | else-ends-there·by·else-ends-there w ↦ goes-on bs k from to (c .in-Some .size) h (ap ends-there (sym (c .layout-of-layout .ensures)) ∙ sym (w .if-ends-there .ensures tt))
-        ] in
+    elim (c .else-ends-there .came) [
+      | else-ends-there·by·then-ends-there·else-size-reader w ↦ fills bs k from to (c .in-Some .size) h (omega (arith, w .if-size-reader .left))
+      | else-ends-there·by·else-ends-there w ↦ goes-on bs k from to (c .in-Some .size) h (ap ends-there (sym (c .layout-of-layout .ensures)) ∙ sym (w .if-ends-there .ensures tt))
+    ] in
     let n = c .numbers .ensures ∙ ap (λ (x : Layout). numbers-at (x .fields) bs from) (c .layout-of-layout .ensures) in
-    record
-    { value = passed-globe bs k from to (c .in-Some .size) h (c .args .level) (c .args .place) q (omega arith) (c .numbers .result) n (c .if-is-none .ensures tt)
-    ; edge = search needs
-    ; moved = tt }
+    record {
+      value = passed-globe bs k from to (c .in-Some .size) h (c .args .level) (c .args .place) q (omega arith) (c .numbers .result) n (c .if-is-none .ensures tt);
+      edge = search needs;
+      moved = tt;
+    }
 
 pub returns : need.returns
 returns c =
@@ -41,12 +42,13 @@ returns c =
     let h = c .in-Some .ensures tt in
     let w = room-some bs k from to (c .in-Some .size) h in
     let q : (ends-there (layout k) && not (eqb to (from + least bs (layout k .fields) from))) ≡ false =
-        elim (c .else-ends-there .came)
-        [ else-ends-there·by·then-ends-there·else-size-reader w ↦ fills bs k from to (c .in-Some .size) h (omega (arith, w .if-size-reader .left))
-        | else-ends-there·by·else-ends-there w ↦ goes-on bs k from to (c .in-Some .size) h (ap ends-there (sym (c .layout-of-layout .ensures)) ∙ sym (w .if-ends-there .ensures tt))
-        ] in
+    elim (c .else-ends-there .came) [
+      | else-ends-there·by·then-ends-there·else-size-reader w ↦ fills bs k from to (c .in-Some .size) h (omega (arith, w .if-size-reader .left))
+      | else-ends-there·by·else-ends-there w ↦ goes-on bs k from to (c .in-Some .size) h (ap ends-there (sym (c .layout-of-layout .ensures)) ∙ sym (w .if-ends-there .ensures tt))
+    ] in
     let n = c .numbers .ensures ∙ ap (λ (x : Layout). numbers-at (x .fields) bs from) (c .layout-of-layout .ensures) in
-    record
-    { value = passed bs k from to (c .in-Some .size) h (c .args .level) (c .args .place) q (omega arith) (c .numbers .result) n (c .if-is-none .ensures tt)
-    ; edge = search needs
-    ; moved = (search needs, omega arith, omega arith) }
+    record {
+      value = passed bs k from to (c .in-Some .size) h (c .args .level) (c .args .place) q (omega arith) (c .numbers .result) n (c .if-is-none .ensures tt);
+      edge = search needs;
+      moved = (search needs, omega arith, omega arith);
+    }

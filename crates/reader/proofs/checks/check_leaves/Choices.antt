@@ -3,7 +3,7 @@ use mathlib.Core.Path.{_≡_}
 use mathlib.Core.Bool.{true}
 use Rattle.grammar.specs.Reading.{closed}
 use Rattle.grammar.specs.Checks.{parts-of, plus}
-use Rattle.reader.proofs.check.check_leaves.Given as given
+use Rattle.reader.proofs.checks.check_leaves.Given as given
 
 abbrev pub Inv-loop-reader : given.InvT-loop-reader
 Inv-loop-reader l =

@@ -1,24 +1,30 @@
 // The check of a container: how many rows it tells, or its first fault.
 ghost use mathlib.Core.Path.{_≡_};
-ghost use mathlib.Core.Bool.{true};
+ghost use mathlib.Core.Bool.{true, false};
 ghost use Prim.Native.Nat.{ℕ, _+_, _*_, _<_, _≤_};
 ghost use lib.ListN.{length};
 ghost use Rattle.std.specs.Results.{Cases};
-ghost use Rattle.grammar.specs.declared.table.Spot.the-variants.{Node, Associated};
+ghost use Rattle.grammar.specs.declared.table.Spot.the-variants.{Descriptions, Node, Associated};
 ghost use Rattle.grammar.specs.Format.{layout};
-ghost use Rattle.grammar.specs.Reading.{closed, is-count};
-ghost use Rattle.grammar.specs.Checks.{leafy, component-of, parts-of};
+ghost use Rattle.grammar.specs.Reading.{closed, is-count, reading};
+ghost use Rattle.grammar.specs.Checks.{leafy, component-of, parts-of, tops-of, many};
+ghost use Rattle.grammar.specs.Theorems.{Told-exactly};
 ghost use Rattle.reader.specs.Opened.{Opened-node};
-use grammar::ReadFault;
-use grammar::Spot;
-use grammar::layout_of;
 use super::edge::Reader;
-use super::edge::Within;
 use super::edge::narrow;
 use super::parts::Part;
+use super::parts::header;
 use super::parts::open_part;
 use super::parts::pass_data;
 use super::parts::pass_fields;
+use grammar::DESCRIPTIONS;
+use grammar::ReadFault;
+use grammar::Spot;
+use grammar::TOP_WIDTH;
+use grammar::layout_of;
+
+// The most bytes of a container.
+const LONGEST: usize = 65_535;
 
 // The most nodes that stand inside one another.
 const MOST_NODES: u8 = 8;
@@ -40,7 +46,12 @@ fn check_leaf(bytes: &[u8], reader: &mut Reader, part: Part, level: u8) -> Resul
 }
 
 // All components from the reader's place to its edge, at a spot where none holds any of its own.
-fn check_leaves(bytes: &[u8], reader: &mut Reader, spot: Spot, level: u8) -> Result<usize, ReadFault>
+fn check_leaves(
+    bytes: &[u8],
+    reader: &mut Reader,
+    spot: Spot,
+    level: u8,
+) -> Result<usize, ReadFault>
     requires order { ⌜ now reader .at ≤ now reader .end ⌝ }
     requires within { ⌜ now reader .end ≤ length (now bytes) ⌝ }
     requires levels { ⌜ 1 ≤ level ⌝ ∗ ⌜ level < 255 ⌝ }
@@ -85,16 +96,28 @@ fn open_node(bytes: &[u8], reader: &mut Reader, place: usize, level: u8) -> Resu
     ensures found { λ r. ⌜ Opened-node (now (bytes .entry)) Associated level place (now (reader .entry) .at) (now (reader .entry) .end) r (now (reader .exit)) ⌝ }
 {
     if reader.at == reader.end {
-        return Err(ReadFault::Miscounted { place, level: level - 1 });
+        return Err(ReadFault::Miscounted {
+            place,
+            level: level - 1,
+        });
     }
     match open_part(bytes, reader, Spot::Associated, level)? {
         Some(part) => Ok(part),
-        None => Err(ReadFault::Miscounted { place, level: level - 1 }),
+        None => Err(ReadFault::Miscounted {
+            place,
+            level: level - 1,
+        }),
     }
 }
 
 // A node at whose data the reader stands, inside so many others.
-fn check_node(bytes: &[u8], reader: &mut Reader, part: Part, level: u8, nodes: u8) -> Result<usize, ReadFault>
+fn check_node(
+    bytes: &[u8],
+    reader: &mut Reader,
+    part: Part,
+    level: u8,
+    nodes: u8,
+) -> Result<usize, ReadFault>
     requires order { ⌜ now reader .at ≤ part .stop ⌝ ∗ ⌜ part .stop ≤ now reader .end ⌝ }
     requires within { ⌜ now reader .end ≤ length (now bytes) ⌝ }
     requires place { ⌜ part .place < now reader .at ⌝ }
@@ -105,7 +128,10 @@ fn check_node(bytes: &[u8], reader: &mut Reader, part: Part, level: u8, nodes: u
     ensures moved { λ r. ⌜ Cases r (λ m. (now (reader .exit) .at ≡ part .stop) × (part .place + m ≤ part .stop)) (λ _. Unit {0}) ⌝ }
 {
     if nodes == MOST_NODES {
-        return Err(ReadFault::TooDeep { place: part.place, level });
+        return Err(ReadFault::TooDeep {
+            place: part.place,
+            level,
+        });
     }
     let inner = narrow(reader, part.stop);
     pass_fields(bytes, inner.reader, part.kind, part.place, level)?;
@@ -123,7 +149,13 @@ fn check_node(bytes: &[u8], reader: &mut Reader, part: Part, level: u8, nodes: u
 }
 
 // Associated modes at whose data the reader stands, inside so many nodes.
-fn check_modes(bytes: &[u8], reader: &mut Reader, part: Part, level: u8, nodes: u8) -> Result<usize, ReadFault>
+fn check_modes(
+    bytes: &[u8],
+    reader: &mut Reader,
+    part: Part,
+    level: u8,
+    nodes: u8,
+) -> Result<usize, ReadFault>
     requires order { ⌜ now reader .at ≤ part .stop ⌝ ∗ ⌜ part .stop ≤ now reader .end ⌝ }
     requires within { ⌜ now reader .end ≤ length (now bytes) ⌝ }
     requires place { ⌜ part .place < now reader .at ⌝ }
@@ -143,7 +175,69 @@ fn check_modes(bytes: &[u8], reader: &mut Reader, part: Part, level: u8, nodes: 
         rows += check_node(bytes, inner.reader, node, level + 1, nodes)?;
     }
     if inner.reader.at != inner.reader.end {
-        return Err(ReadFault::Miscounted { place: part.place, level });
+        return Err(ReadFault::Miscounted {
+            place: part.place,
+            level,
+        });
     }
     Ok(rows)
+}
+
+// The descriptions at whose data the reader stands, which end at `stop`.
+fn check_descriptions(bytes: &[u8], reader: &mut Reader, stop: usize) -> Result<usize, ReadFault>
+    requires order { ⌜ now reader .at ≤ stop ⌝ ∗ ⌜ stop ≤ now reader .end ⌝ }
+    requires within { ⌜ now reader .end ≤ length (now bytes) ⌝ }
+    ensures value { λ r. ⌜ r ≡ parts-of (now (bytes .entry)) Descriptions 1 0 (now (reader .entry) .at) stop ⌝ }
+    ensures edge { λ _. ⌜ now (reader .exit) .end ≡ now (reader .entry) .end ⌝ }
+    ensures moved { λ r. ⌜ Cases r (λ m. (now (reader .exit) .at ≡ stop) × (now (reader .entry) .at + m ≤ stop)) (λ _. Unit {0}) ⌝ }
+{
+    let inner = narrow(reader, stop);
+    let mut rows = 0;
+    while inner.reader.at < inner.reader.end {
+        if let Some(node) = open_part(bytes, inner.reader, Spot::Descriptions, 1)? {
+            rows += check_node(bytes, inner.reader, node, 1, 0)?;
+        }
+    }
+    Ok(rows)
+}
+
+// The container's components, past its default language.
+fn check_tops(bytes: &[u8]) -> Result<usize, ReadFault>
+    requires some { ⌜ 0 < length (now bytes) ⌝ }
+    ensures { λ r. ⌜ r ≡ tops-of (now (bytes .entry)) false 1 ⌝ }
+{
+    let mut reader = Reader {
+        at: 1,
+        end: bytes.len(),
+    };
+    let mut seen = false;
+    let mut rows = 0;
+    while reader.at < reader.end {
+        let place = reader.at;
+        let stop = header(bytes, &mut reader, TOP_WIDTH, 0)?;
+        if bytes[place] == DESCRIPTIONS {
+            if seen {
+                return Err(ReadFault::SecondDescriptions { place });
+            }
+            seen = true;
+            rows += check_descriptions(bytes, &mut reader, stop)?;
+        } else {
+            reader.at = stop;
+        }
+    }
+    Ok(rows)
+}
+
+// How many rows a container tells, or why the bytes are none: their first fault.
+pub fn check(bytes: &[u8]) -> Result<usize, ReadFault>
+    ensures value { λ r. ⌜ r ≡ many (reading (now (bytes .entry))) ⌝ }
+    ensures legal { λ r. ⌜ Told-exactly (now (bytes .entry)) r ⌝ }
+{
+    if bytes.len() > LONGEST {
+        return Err(ReadFault::TooLong);
+    }
+    if bytes.len() == 0 {
+        return Err(ReadFault::Empty);
+    }
+    check_tops(bytes)
 }
