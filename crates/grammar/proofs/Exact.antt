@@ -13,6 +13,9 @@ use Rattle.grammar.specs.Theorems.{One-meaning, Refuses-rightly, Told-exactly}
 use Rattle.grammar.proofs.Cut.{ok-ok, err-ok}
 use Rattle.grammar.proofs.Sound.{reading-sound}
 use Rattle.grammar.proofs.Complete.{reading-complete}
+use Rattle.grammar.proofs.Same.{reading-same}
+use Rattle.grammar.proofs.Walked.{walk-tells}
+use Rattle.grammar.specs.Walk.{told-from}
 
 pub one-meaning : One-meaning
 one-meaning bytes r s h k = ok-ok (sym (reading-complete bytes r h) ∙ reading-complete bytes s k)
@@ -34,3 +37,11 @@ told-exactly bs h r e = go (reading bs) refl r e
     go (Ok rows) q (Err f) e = absurd (err-ok e)
     go (Err f) q (Ok n) e = absurd (err-ok (sym e))
     go (Err f) q (Err g) e = refuses-rightly bs f q
+
+-- what a walk tells is told
+pub walk-told : (bs : List ℕ) (rows : Rows) → Tells bs rows → Tells bs (told-from bs)
+walk-told bs rows t = subst (Tells bs) (sym (walk-tells bs rows (reading-same bs ∙ reading-complete bs rows t))) t
+
+pub fault-read : (r : Read Rows) (f : ReadFault) → _≡_ {A = Read ℕ} (Err f) (many r) → r ≡ Err f
+fault-read (Ok rows) f e = absurd (err-ok e)
+fault-read (Err g) f e = cc

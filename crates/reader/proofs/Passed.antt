@@ -76,23 +76,24 @@ module _ (bs : List ℕ) (k : ℕ) where
       pub goes-on : O.ends-there (layout k) ≡ false → (O.ends-there (layout k) && not (eqb to (from + O.least bs (layout k .fields) from))) ≡ false
       goes-on e = rw e
 
-      module _ (level at : ℕ) (q : (O.ends-there (layout k) && not (eqb to (from + O.least bs (layout k .fields) from))) ≡ false) (within : to ≤ length bs) where
-        on-globe : (o : Option (ℤ × ℤ)) → o ≡ numbers-at (layout k .fields) bs from → (b : Bool) → isSome o ≡ b → O.off-globe bs (layout k .fields) from ≡ not b
-        on-globe o e b y =
-            let w = room-some size h in
-            let f = fixed-by-fields k in
-            let l = least-over from in
-            let short : ltb (length bs) (from + fixed-bytes (layout k .fields)) ≡ false = le-ltb _ _ (omega arith) in
-            by-cases (O.off-globe bs (layout k .fields) from)
-            (λ g. let z : isSome o ≡ false = rw (short, g) at (ap isSome e) in g ∙ ap not (sym z ∙ y))
-            (λ g. let z : isSome o ≡ true = rw (short, g) at (ap isSome e) in g ∙ ap not (sym z ∙ y))
+      -- numbers are told where they are on the globe
+      pub on-globe : to ≤ length bs → (o : Option (ℤ × ℤ)) → o ≡ numbers-at (layout k .fields) bs from → (b : Bool) → isSome o ≡ b → O.off-globe bs (layout k .fields) from ≡ not b
+      on-globe within o e b y =
+          let w = room-some size h in
+          let f = fixed-by-fields k in
+          let l = least-over from in
+          let short : ltb (length bs) (from + fixed-bytes (layout k .fields)) ≡ false = le-ltb _ _ (omega arith) in
+          by-cases (O.off-globe bs (layout k .fields) from)
+          (λ g. let z : isSome o ≡ false = rw (short, g) at (ap isSome e) in g ∙ ap not (sym z ∙ y))
+          (λ g. let z : isSome o ≡ true = rw (short, g) at (ap isSome e) in g ∙ ap not (sym z ∙ y))
 
+      module _ (level at : ℕ) (q : (O.ends-there (layout k) && not (eqb to (from + O.least bs (layout k .fields) from))) ≡ false) (within : to ≤ length bs) where
         pub passed-globe : (o : Option (ℤ × ℤ)) → o ≡ numbers-at (layout k .fields) bs from → isSome o ≡ false → Err (OffGlobe at level) ≡ fields-of bs (layout k) level at from to
         passed-globe o e y =
             let w = room-some size h in
-            rw (le-ltb to (from + O.least bs (layout k .fields) from) (omega arith), q, on-globe o e false y)
+            rw (le-ltb to (from + O.least bs (layout k .fields) from) (omega arith), q, on-globe within o e false y)
 
         pub passed : (o : Option (ℤ × ℤ)) → o ≡ numbers-at (layout k .fields) bs from → isSome o ≡ true → Ok (from + size) ≡ fields-of bs (layout k) level at from to
         passed o e y =
             let w = room-some size h in
-            rw (le-ltb to (from + O.least bs (layout k .fields) from) (omega arith), q, on-globe o e true y) (ap (λ (x : ℕ). Ok (from + x)) (w .0))
+            rw (le-ltb to (from + O.least bs (layout k .fields) from) (omega arith), q, on-globe within o e true y) (ap (λ (x : ℕ). Ok (from + x)) (w .0))

@@ -1,1 +1,4 @@
 pub mod Opened
+pub mod Marks
+pub mod Seen
+pub mod Whole
