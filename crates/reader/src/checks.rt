@@ -204,7 +204,8 @@ fn check_descriptions(bytes: &[u8], reader: &mut Reader, stop: usize) -> Result<
 // The container's components, past its default language.
 fn check_tops(bytes: &[u8]) -> Result<usize, ReadFault>
     requires some { ⌜ 0 < length (now bytes) ⌝ }
-    ensures { λ r. ⌜ r ≡ tops-of (now (bytes .entry)) false 1 ⌝ }
+    ensures value { λ r. ⌜ r ≡ tops-of (now (bytes .entry)) false 1 ⌝ }
+    ensures few { λ r. ⌜ Cases r (λ n. n ≤ length (now (bytes .entry))) (λ _. Unit {0}) ⌝ }
 {
     let mut reader = Reader {
         at: 1,
@@ -232,6 +233,7 @@ fn check_tops(bytes: &[u8]) -> Result<usize, ReadFault>
 pub fn check(bytes: &[u8]) -> Result<usize, ReadFault>
     ensures value { λ r. ⌜ r ≡ many (reading (now (bytes .entry))) ⌝ }
     ensures legal { λ r. ⌜ Told-exactly (now (bytes .entry)) r ⌝ }
+    ensures few { λ r. ⌜ Cases r (λ n. n ≤ 65535) (λ _. Unit {0}) ⌝ }
 {
     if bytes.len() > LONGEST {
         return Err(ReadFault::TooLong);

@@ -21,15 +21,21 @@ returns-in-Break-stop c =
     let i = c .loop-reader .inv in
     let bs = c .args .bytes .now in
     let q = ap (ends bs 2 0 (c .loop-reader .reader .at)) (sym (i .1)) ∙ sym (c .header .ensures .value) ∙ c .in-Break-stop .was tt in
-    p .1 ∙ ap Err (p .2) ∙ sym (i .3 ∙ ap (plus (c .loop-reader .rows)) (tops-past bs (c .loop-reader .seen) (c .loop-reader .reader .at) (omega arith) _ q))
+    record {
+      value = p .1 ∙ ap Err (p .2) ∙ sym (i .3 ∙ ap (plus (c .loop-reader .rows)) (tops-past bs (c .loop-reader .seen) (c .loop-reader .reader .at) (omega arith) _ q));
+      few = rw (p .1) tt;
+    }
 
 pub returns-then-seen : need.returns-then-seen
 returns-then-seen c =
     let i = c .loop-reader .inv in
     let bs = c .args .bytes .now in
     let q = ap (ends bs 2 0 (c .loop-reader .reader .at)) (sym (i .1)) ∙ sym (c .header .ensures .value) ∙ c .in-Continue-stop .was tt in
-    sym (i .3 ∙ ap (plus (c .loop-reader .rows))
-    (tops-second bs (c .loop-reader .seen) (c .loop-reader .reader .at) (omega arith) _ q (c .if-bytes-place-eq-DESCRIPTIONS .taken) (c .if-seen .taken)))
+    record {
+      value = sym (i .3 ∙ ap (plus (c .loop-reader .rows))
+          (tops-second bs (c .loop-reader .seen) (c .loop-reader .reader .at) (omega arith) _ q (c .if-bytes-place-eq-DESCRIPTIONS .taken) (c .if-seen .taken)));
+      few = tt;
+    }
 
 pub returns-in-Break-rows : need.returns-in-Break-rows
 returns-in-Break-rows c =
@@ -40,10 +46,13 @@ returns-in-Break-rows c =
     let m = c .in-Continue-stop .ensures tt .moved in
     let q = ap (ends bs 2 0 at) (sym (i .1)) ∙ sym (c .header .ensures .value) ∙ c .in-Continue-stop .was tt in
     let r = ap (λ (x : ℕ). parts-of bs Descriptions 1 0 x (c .in-Continue-stop .stop)) (sym (m .0)) ∙ sym (c .check-descriptions .ensures .value) ∙ c .in-Break-rows .was tt in
-    p .1 ∙ ap Err (p .2)
-    ∙ sym (i .3 ∙ ap (plus (c .loop-reader .rows))
-    (tops-described bs (c .loop-reader .seen) at (omega arith) _ q (c .if-bytes-place-eq-DESCRIPTIONS .taken) (c .if-seen .left)
-    ∙ then-err (parts-of bs Descriptions 1 0 (at + 3) (c .in-Continue-stop .stop)) _ _ r))
+    record {
+      value = p .1 ∙ ap Err (p .2)
+          ∙ sym (i .3 ∙ ap (plus (c .loop-reader .rows))
+          (tops-described bs (c .loop-reader .seen) at (omega arith) _ q (c .if-bytes-place-eq-DESCRIPTIONS .taken) (c .if-seen .left)
+          ∙ then-err (parts-of bs Descriptions 1 0 (at + 3) (c .in-Continue-stop .stop)) _ _ r));
+      few = rw (p .1) tt;
+    }
 
 pub loop-reader-again-then-bytes-place-eq-DESCRIPTIONS : need.loop-reader-again-then-bytes-place-eq-DESCRIPTIONS
 loop-reader-again-then-bytes-place-eq-DESCRIPTIONS c =
@@ -83,4 +92,7 @@ loop-reader-again c =
 pub returns : need.returns
 returns c =
     let i = c .loop-reader .inv in
-    sym (i .3 ∙ ap (plus (c .loop-reader .rows)) (tops-done (c .args .bytes .now) (c .loop-reader .seen) (c .loop-reader .reader .at) (omega arith)) ∙ ap Ok (omega arith))
+    record {
+      value = sym (i .3 ∙ ap (plus (c .loop-reader .rows)) (tops-done (c .args .bytes .now) (c .loop-reader .seen) (c .loop-reader .reader .at) (omega arith)) ∙ ap Ok (omega arith));
+      few = omega arith;
+    }
