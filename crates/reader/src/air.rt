@@ -32,7 +32,7 @@ use location::Row;
 
 // A row that a mark stands at: its component, and the mark of the rows after it.
 #[derive(Clone, Copy)]
-pub struct Sight {
+pub(crate) struct Sight {
     depth: u8,
     kind: u8,
     from: usize,
@@ -42,7 +42,7 @@ pub struct Sight {
 
 // What is found at a mark: a row, nothing yet but a mark further on with the same rows, or the end.
 #[derive(Clone, Copy)]
-pub enum Step {
+pub(crate) enum Step {
     Row(Sight),
     Pass(Mark),
     End,

@@ -4,15 +4,15 @@ ghost use denote.Ref.{name};
 
 // Where reading goes on, and the right edge that it may not pass.
 #[derive(Drop)]
-pub struct Reader {
-    pub at: usize,
-    pub end: usize,
+pub(crate) struct Reader {
+    pub(crate) at: usize,
+    pub(crate) end: usize,
 }
 
 // While this lives the edge is a component's end; dropped, whichever way, it puts the old edge back.
-pub struct Within<'r> {
-    pub reader: &'r mut Reader,
-    pub edge: usize,
+pub(crate) struct Within<'r> {
+    pub(crate) reader: &'r mut Reader,
+    pub(crate) edge: usize,
 }
 
 impl Drop for Within<'_> {
@@ -26,7 +26,7 @@ impl Drop for Within<'_> {
 }
 
 // Narrows the edge to `end`.
-pub fn narrow<'r>(reader: &'r mut Reader, end: usize) -> Within<'r>
+pub(crate) fn narrow<'r>(reader: &'r mut Reader, end: usize) -> Within<'r>
     ensures same { λ r. ⌜ name (r .reader) ≡ name (reader .entry) ⌝ }
     ensures edge { λ r. ⌜ r .edge ≡ now (reader .entry) .end ⌝ }
     ensures end { λ r. ⌜ now (r .reader) .end ≡ end ⌝ }

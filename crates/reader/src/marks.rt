@@ -7,13 +7,13 @@ ghost use mathlib.Core.List.{_∷_};
 use grammar::Spot;
 
 // The most holders that a row of a legal container has around it, the descriptions among them.
-pub const MOST_HOLDERS: usize = 17;
+pub(crate) const MOST_HOLDERS: usize = 17;
 
 // A holder that is not done: where its data end, and where its parts stand.
 #[derive(Clone, Copy)]
-pub struct Frame {
-    pub end: usize,
-    pub spot: Spot,
+pub(crate) struct Frame {
+    pub(crate) end: usize,
+    pub(crate) spot: Spot,
 }
 
 const BLANK: Frame = Frame {
@@ -24,9 +24,9 @@ const BLANK: Frame = Frame {
 // A place, and the holders around it, of which so many count: the outermost first.
 #[derive(Clone, Copy)]
 pub struct Mark {
-    pub at: usize,
-    pub held: u8,
-    pub frames: [Frame; MOST_HOLDERS],
+    pub(crate) at: usize,
+    pub(crate) held: u8,
+    pub(crate) frames: [Frame; MOST_HOLDERS],
 }
 
 fn frame_at(frames: &[Frame], i: usize) -> Frame
@@ -45,7 +45,7 @@ fn put_frame(frames: &mut [Frame], held: usize, frame: Frame)
 
 impl Mark {
     // The place `at` inside one holder.
-    pub fn inside(frame: Frame, at: usize) -> Mark
+    pub(crate) fn inside(frame: Frame, at: usize) -> Mark
         ensures place { λ r. ⌜ r .at ≡ at ⌝ }
         ensures holders { λ r. ⌜ stack (r .frames) (r .held) ≡ record { end = frame .end; spot = frame .spot } ∷ stack (r .frames) 0 ⌝ }
     {
@@ -57,7 +57,7 @@ impl Mark {
     }
 
     // The innermost holder.
-    pub fn top(&self) -> Frame
+    pub(crate) fn top(&self) -> Frame
         requires { ⌜ 0 < now self .held ⌝ }
         ensures { λ r. ⌜ r ≡ getD (now (self .entry) .frames) (now (self .entry) .held - 1) blank-frame ⌝ }
     {
@@ -65,7 +65,7 @@ impl Mark {
     }
 
     // Another place inside the same holders.
-    pub fn moved(self, at: usize) -> Mark
+    pub(crate) fn moved(self, at: usize) -> Mark
         ensures { λ r. ⌜ r ≡ record { at = at; held = self .held; frames = self .frames } ⌝ }
     {
         let mut mark = self;
@@ -74,7 +74,7 @@ impl Mark {
     }
 
     // The same place, outside the innermost holder.
-    pub fn popped(self) -> Mark
+    pub(crate) fn popped(self) -> Mark
         requires { ⌜ 0 < self .held ⌝ }
         ensures { λ r. ⌜ r ≡ record { at = self .at; held = self .held - 1; frames = self .frames } ⌝ }
     {
@@ -84,7 +84,7 @@ impl Mark {
     }
 
     // The same holders, and one more inside them.
-    pub fn push(self, frame: Frame, at: usize) -> Mark
+    pub(crate) fn push(self, frame: Frame, at: usize) -> Mark
         requires { ⌜ self .held < 17 ⌝ }
         ensures place { λ r. ⌜ r .at ≡ at ⌝ }
         ensures holders { λ r. ⌜ stack (r .frames) (r .held) ≡ record { end = frame .end; spot = frame .spot } ∷ stack (self .frames) (self .held) ⌝ }

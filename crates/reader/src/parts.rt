@@ -18,7 +18,7 @@ use grammar::layout_of;
 const LANGUAGE: u8 = 0;
 
 // The number in the `width` bytes at `at`, the highest first.
-pub fn number_at(bytes: &[u8], at: usize, width: usize) -> usize
+pub(crate) fn number_at(bytes: &[u8], at: usize, width: usize) -> usize
     requires within { ⌜ at + width ≤ length (now bytes) ⌝ }
     requires narrow { ⌜ width ≤ 7 ⌝ }
     ensures value { λ r. ⌜ r ≡ value-at (now (bytes .entry)) at width ⌝ }
@@ -32,7 +32,7 @@ pub fn number_at(bytes: &[u8], at: usize, width: usize) -> usize
 }
 
 // Reads the header at the reader's place, moves past it, and answers the component's end.
-pub fn header(
+pub(crate) fn header(
     bytes: &[u8],
     reader: &mut Reader,
     width: usize,
@@ -60,14 +60,14 @@ pub fn header(
 
 // A known component whose header was read: where it stands, its kind, and where it ends.
 #[derive(Clone, Copy)]
-pub struct Part {
-    pub place: usize,
-    pub kind: u8,
-    pub stop: usize,
+pub(crate) struct Part {
+    pub(crate) place: usize,
+    pub(crate) kind: u8,
+    pub(crate) stop: usize,
 }
 
 // Reads the header at the reader's place and looks the identifier up; an unknown component is passed over.
-pub fn open_part(
+pub(crate) fn open_part(
     bytes: &[u8],
     reader: &mut Reader,
     spot: Spot,
@@ -91,7 +91,11 @@ pub fn open_part(
 }
 
 // The language that a text's own components say, from the reader's place to its edge.
-pub fn read_language(bytes: &[u8], reader: &mut Reader, level: u8) -> Result<Option<u8>, ReadFault>
+pub(crate) fn read_language(
+    bytes: &[u8],
+    reader: &mut Reader,
+    level: u8,
+) -> Result<Option<u8>, ReadFault>
     requires order { ⌜ now reader .at ≤ now reader .end ⌝ }
     requires within { ⌜ now reader .end ≤ length (now bytes) ⌝ }
     ensures value { λ r. ⌜ r ≡ tail-of (now (bytes .entry)) level None (now (reader .entry) .at) (now (reader .entry) .end) ⌝ }
@@ -131,7 +135,7 @@ fn least_at(bytes: &[u8], at: usize, kind: u8) -> usize
 }
 
 // The same, if they end before the reader's edge.
-pub fn fields_size(bytes: &[u8], reader: &Reader, kind: u8) -> Option<usize>
+pub(crate) fn fields_size(bytes: &[u8], reader: &Reader, kind: u8) -> Option<usize>
     requires order { ⌜ now reader .at ≤ now reader .end ⌝ }
     requires within { ⌜ now reader .end ≤ length (now bytes) ⌝ }
     ensures { λ r. ⌜ r ≡ room-for (now (bytes .entry)) (layout kind .fields) (now (reader .entry) .at) (now (reader .entry) .end) ⌝ }
@@ -145,7 +149,7 @@ pub fn fields_size(bytes: &[u8], reader: &Reader, kind: u8) -> Option<usize>
 }
 
 // Passes the fixed fields of the component at `place`, whose data the reader stands at, and answers where its parts begin.
-pub fn pass_fields(
+pub(crate) fn pass_fields(
     bytes: &[u8],
     reader: &mut Reader,
     kind: u8,
@@ -173,7 +177,7 @@ pub fn pass_fields(
 }
 
 // The same past a text's own components too.
-pub fn pass_data(
+pub(crate) fn pass_data(
     bytes: &[u8],
     reader: &mut Reader,
     kind: u8,
