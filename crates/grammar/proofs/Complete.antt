@@ -77,7 +77,7 @@ is-open Modes h = refl
 is-open Associated h = absurd h
 is-open Nowhere h = absurd h
 
-text-known : (k : ℕ) → layout k .fields ≡ Text → k ≡ 0 → ⊥
+pub text-known : (k : ℕ) → layout k .fields ≡ Text → k ≡ 0 → ⊥
 text-known k h e =
     let no-text : _≡_ {A = Fields} Nothing Text = subst (λ (j : ℕ). layout j .fields ≡ Text) e h in
     let z : _≡_ {A = ℕ} 0 1 = cc in omega arith

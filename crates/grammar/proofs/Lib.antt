@@ -11,3 +11,14 @@ pub mod Same
 pub mod Steps
 pub mod Walked
 pub mod Exact
+pub mod Normal
+pub mod Gathered
+pub mod Shapes
+pub mod Chosen
+pub mod Sizes
+pub mod Legal
+pub mod Sends
+pub mod Choosing
+pub mod Flattened
+pub mod Admitted
+pub mod Sent

@@ -22,7 +22,7 @@ use Rattle.grammar.specs.declared.fault.ReadFault.{ReadFault}
 use Rattle.std.specs.declared.option.Option.the-variants.{Some, None}
 use Rattle.grammar.specs.Reading.{Read, if, then, Spoken, heard, or-else, is-text, is-count, closed, counted}
 use Rattle.grammar.specs.Offsets as O
-use Rattle.grammar.specs.Walk.{Frame, most-frames, read-or, language-at, row-at, met, turn, walk, rows-from, Stretch, no-stretch, seek, data-from}
+use Rattle.grammar.specs.Walk.{Frame, most-frames, extra, room, read-or, language-at, row-at, met, turn, walk, rows-from, Stretch, no-stretch, seek, data-from}
 use Rattle.grammar.specs.Theorems.{Stands-at, Walk-tells}
 use Rattle.grammar.proofs.Cut.{by-cases, by-test, by-then, err-ok, ok-ok, pass, go-then}
 use Rattle.grammar.proofs.Lines.{both-left, both-right, line-at, found-by-id, counts-agree, text-closed}
@@ -201,21 +201,7 @@ module _ (bs : List ℕ) (d : ℕ) where
           (other-way (leb most-frames (length (frame ∷ fs))) _ _ (lt-leb _ _ m)
           (ap (λ (i : ℕ). row-at bs d (length fs) k from to ∷ rows-from bs d (record { end = to; spot = layout k .inside } ∷ frame ∷ fs) i) b))))
 
--- what a spot adds to two holders for each node
-abbrev extra : Spot → ℕ
-extra Descriptions = 1
-extra Node = 0
-extra Reference = 1
-extra Place = 1
-extra Modes = 1
-extra Associated = 1
-extra Nowhere = 0
-
--- The most holders around what stands at a spot inside n nodes, the one it stands in among them.
-abbrev room : Spot → ℕ → ℕ
-room s n = 2 * n + extra s
-
-room-most : (s : Spot) (n : ℕ) → n ≤ 8 → room s n ≤ most-frames
+pub room-most : (s : Spot) (n : ℕ) → n ≤ 8 → room s n ≤ most-frames
 room-most Descriptions n h = omega arith
 room-most Node n h = omega arith
 room-most Reference n h = omega arith
@@ -241,7 +227,7 @@ grows s t = leb (suc (extra s)) (room t (deeper t 0))
 abbrev line-grows : Layout → Bool
 line-grows l = closed (l .inside) || (grows (l .holder) (l .inside) && grows (l .again) (l .inside))
 
-room-grows : (s : Spot) (i k n : ℕ) → kind-at s i ≡ k → 0 < k → closed (layout k .inside) ≡ false → suc (room s n) ≤ room (layout k .inside) (deeper (layout k .inside) n)
+pub room-grows : (s : Spot) (i k n : ℕ) → kind-at s i ≡ k → 0 < k → closed (layout k .inside) ≡ false → suc (room s n) ≤ room (layout k .inside) (deeper (layout k .inside) n)
 room-grows s i k n e z c =
     let by-holder : Bool = grows (layout k .holder) (layout k .inside) in
     let by-again : Bool = grows (layout k .again) (layout k .inside) in

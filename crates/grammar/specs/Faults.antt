@@ -1,5 +1,7 @@
--- The number, the place and the level of a fault of reading.
+-- The number, the place and the level of a fault, of reading and of sending.
 use Prim.Native.Nat.{ℕ}
+use Rattle.grammar.specs.declared.fault.SendFault.{SendFault}
+use Rattle.grammar.specs.declared.fault.SendFault.the-variants.{NoContainer, NoRoom}
 use Rattle.grammar.specs.declared.fault.ReadFault.{ReadFault}
 use Rattle.grammar.specs.declared.fault.ReadFault.the-variants.{TooLong, Empty, PastEnd, WrongSize, SecondDescriptions, SecondLanguage, OffGlobe, Miscounted, TooDeep}
 
@@ -37,3 +39,16 @@ level-of (SecondLanguage p l) = l
 level-of (OffGlobe p l) = l
 level-of (Miscounted p l) = l
 level-of (TooDeep p l) = l
+
+abbrev pub send-number-of : SendFault → ℕ
+send-number-of NoContainer = 15
+send-number-of (NoRoom n) = 16
+
+-- the bytes that are needed
+abbrev pub send-place-of : SendFault → ℕ
+send-place-of NoContainer = 0
+send-place-of (NoRoom n) = n
+
+abbrev pub send-level-of : SendFault → ℕ
+send-level-of NoContainer = 0
+send-level-of (NoRoom n) = 0

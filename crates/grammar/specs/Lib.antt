@@ -7,3 +7,8 @@ pub mod Walk
 pub mod Checks
 pub mod Example
 pub mod Theorems
+pub mod Deciding
+pub mod Sending
+pub mod Flat
+pub mod Admits
+pub mod Choice

@@ -1,11 +1,11 @@
 -- The rows of a container from mark to mark: one row at a time, with the holders that are not done yet on a stack.
 use mathlib.Core.List.{List, [], _∷_}
-use Prim.Native.Nat.{ℕ, zero, suc, _+_}
+use Prim.Native.Nat.{ℕ, zero, suc, _+_, _*_}
 use lib.ListN.{length, getD, take, drop}
 use lib.IntN.{pos}
 use lib.Dec.{eqb, ltb, leb}
 use Rattle.grammar.specs.declared.table.Spot.{Spot}
-use Rattle.grammar.specs.declared.table.Spot.the-variants.{Descriptions}
+use Rattle.grammar.specs.declared.table.Spot.the-variants.{Descriptions, Node, Reference, Place, Modes, Associated, Nowhere}
 use Rattle.grammar.specs.declared.table.Fields.the-variants.{Text}
 use Rattle.grammar.specs.Format.{width, layout, kind-at}
 use Rattle.grammar.specs.Grammar.{Row}
@@ -24,6 +24,20 @@ pub record Frame : Type 0 where
 -- The most holders that a row of a legal container has around it, the descriptions among them.
 abbrev pub most-frames : ℕ
 most-frames = 17
+
+-- what a spot adds to two holders for each node
+abbrev pub extra : Spot → ℕ
+extra Descriptions = 1
+extra Node = 0
+extra Reference = 1
+extra Place = 1
+extra Modes = 1
+extra Associated = 1
+extra Nowhere = 0
+
+-- The most holders around what stands at a spot inside n nodes, the one it stands in among them.
+abbrev pub room : Spot → ℕ → ℕ
+room s n = 2 * n + extra s
 
 -- what was read, or else this value where it is faulty
 abbrev pub read-or : {X Y : Type 0} → Read X → Y → (X → Y) → Y

@@ -1,6 +1,6 @@
-// Why bytes are no legal container: the first fault, by offset.
+// Why bytes are no legal container, and why rows are not sent.
 ghost use mathlib.Core.Path.{_≡_};
-ghost use Rattle.grammar.specs.Faults.{number-of, place-of, level-of};
+ghost use Rattle.grammar.specs.Faults.{number-of, place-of, level-of, send-number-of, send-place-of, send-level-of};
 
 // The place is the offset of the faulty component's identifier, the level the number of components that hold it.
 #[derive(Clone, Copy)]
@@ -68,6 +68,43 @@ impl ReadFault {
             | ReadFault::OffGlobe { level, .. }
             | ReadFault::Miscounted { level, .. }
             | ReadFault::TooDeep { level, .. } => level,
+        }
+    }
+}
+
+// Why rows are not sent. Neither fault has a level.
+#[derive(Clone, Copy)]
+pub enum SendFault {
+    // no legal container tells the rows
+    NoContainer,
+    // the output is too short: so many bytes are needed
+    NoRoom { needed: usize },
+}
+
+impl SendFault {
+    pub fn number(self) -> u8
+        ensures { λ r. ⌜ r ≡ send-number-of self ⌝ }
+    {
+        match self {
+            SendFault::NoContainer => 15,
+            SendFault::NoRoom { .. } => 16,
+        }
+    }
+
+    pub fn place(self) -> usize
+        ensures { λ r. ⌜ r ≡ send-place-of self ⌝ }
+    {
+        match self {
+            SendFault::NoContainer => 0,
+            SendFault::NoRoom { needed } => needed,
+        }
+    }
+
+    pub fn level(self) -> u8
+        ensures { λ r. ⌜ r ≡ send-level-of self ⌝ }
+    {
+        match self {
+            SendFault::NoContainer | SendFault::NoRoom { .. } => 0,
         }
     }
 }
