@@ -1,9 +1,9 @@
 -- What the calls of a location answer at a mark, by the list of rows from there on.
 use mathlib.Core.Path.{_≡_}
-use mathlib.Core.List.{List, [], _∷_}
+use mathlib.Core.List.{List, [], _∷_, _++_}
 use mathlib.Core.Bool.{Bool, true, false}
 use Prim.Native.Nat.{ℕ}
-use lib.ListN.{length}
+use lib.ListN.{length, drop}
 use Rattle.std.specs.declared.option.Option.{Option}
 use Rattle.std.specs.declared.option.Option.the-variants.{Some, None}
 use Rattle.grammar.specs.Grammar.{Rows, Row as Told}
@@ -25,6 +25,10 @@ head-row (x ∷ xs) = Some (seen x)
 abbrev pub head-text : Rows → List ℕ
 head-text [] = []
 head-text (x ∷ xs) = x .text
+
+-- bytes in place of the first of others
+abbrev pub laid-over : List ℕ → List ℕ → List ℕ
+laid-over xs ys = xs ++ drop (length xs) ys
 
 -- no mark where there is no row; else one whose list is the rest
 abbrev pub Next : {M : Type 0} → (M → Rows) → Rows → Option M → Type 0
