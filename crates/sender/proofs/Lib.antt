@@ -1,0 +1,10 @@
+pub mod Spliced
+pub mod Laid
+pub mod Looked
+pub mod Headed
+pub mod Writes
+pub mod Underway
+pub mod Turned
+pub mod Decided
+pub mod Judged
+pub mod Framed
