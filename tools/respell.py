@@ -22,8 +22,8 @@ DECLARED = re.compile(r"^\s*(?:(?:abbrev|unfoldable|opaque|data|record|pub|macro
 RECORD = re.compile(r"^\s*(?:pub )?(?:record|data) ([A-Za-z_][^\s:(){}]*) +[({]")
 ALIAS = re.compile(r" as ([a-z_][A-Za-z0-9_'-]*)(?=[,};]|$)")
 COMMENT = re.compile(r"--(?=\s|$).*")
-# Relations that were in small letters, with no hyphen to be seen by.
-RELATIONS = {"none_told": "NoneTold", "up_to": "UpTo", "between": "Between"}
+# Relations that no hyphen shows: in small letters, or turned by half by port.py.
+RELATIONS = {"none_told": "NoneTold", "up_to": "UpTo", "between": "Between", "Goes_on": "GoesOn", "Found_at": "FoundAt"}
 
 
 def read(path):
@@ -53,19 +53,42 @@ def declared(text):
     return found
 
 
-def antt(text, names, own_goals):
+def held(text):
+    """The names of the fields of a file's records."""
+    found, inside = set(), None
+    for line in COMMENT.sub("", text).split("\n"):
+        indent = len(line) - len(line.lstrip())
+        if re.match(r"\s*(?:pub )?record ", line):
+            inside = indent
+        elif inside is not None and indent <= inside:
+            inside = None
+        elif inside is not None and (m := DECLARED.match(line)) and "-" in m[1]:
+            found.add(m[1])
+    return found
+
+
+def foreign(text, own):
+    """The names that a file imports from other libraries."""
+    found = set()
+    for m in re.finditer(r"^\s*(?:ghost )?use ([\w.']+)\.\{(.*)\}", text, re.M):
+        p = m[1].split(".")
+        if not (p[0] == "Rattle" and p[1] in own):
+            found |= {n.strip() for n in m[2].split(",")}
+    return found
+
+
+def antt(text, names, own_goals, fields):
     """The text of a definition or proof file with the names turned."""
 
     def word(m):
         w, at = m[0], m.start()
-        if w not in names or w in own_goals:
-            return w
         if at and m.string[at - 1] == ".":
-            # behind a dot: only of a module, as O.off-globe or Flat.{..}; else it is a field or a goal
-            before = re.search(r"([A-Za-z_][\w']*)\.$", m.string[:at])
-            if not before or not before[1][0].isupper():
-                return w
-        return turned(w)
+            # behind a dot: of a module, as O.off-globe, or a field of a record of ours; else it is a field or a goal that Rattle makes
+            before = re.search(r"([A-Za-z_0-9][\w']*)\.$", m.string[:at])
+            if before and before[1][0].isupper():
+                return turned(w) if w in names and w not in own_goals else w
+            return turned(w) if w in fields and before and before[1] != "c" else w
+        return turned(w) if w in names and w not in own_goals else w
 
     out = []
     for line in text.split("\n"):
@@ -93,7 +116,11 @@ def source(text, names):
 def main():
     root = sys.argv[1] if len(sys.argv) > 1 else os.path.join(os.path.dirname(os.path.abspath(__file__)), "..")
     files = [p for p in glob.glob(os.path.join(root, "crates", "*", "**", "*.antt"), recursive=True) if "/out/" not in p]
+    own = {os.path.basename(os.path.dirname(p)) for p in glob.glob(os.path.join(root, "crates", "*", ""))}
     shared = {}
+    fields = set()
+    for p in files:
+        fields |= held(read(p))
     for p in files:
         parts = os.path.relpath(p, os.path.join(root, "crates")).split(os.sep)
         # crates/NAME/specs/.. and crates/NAME/proofs/File.antt are cited from elsewhere
@@ -120,7 +147,7 @@ def main():
         parts = os.path.relpath(p, os.path.join(root, "crates")).split(os.sep)
         local = {} if parts[1] == "specs" or len(parts) == 3 else {w for w in mine if "-" in w and w not in goals}
         alias = {w for w in ALIAS.findall(text) if "-" in w and turned(w) not in text}
-        new = antt(text, set(shared) | set(local) | alias, goals)
+        new = antt(text, (set(shared) | set(local) | alias) - foreign(text, own), goals, fields)
         if new != text:
             n += 1
             with open(p, "w", encoding="utf-8") as f:
@@ -128,7 +155,7 @@ def main():
     for p in glob.glob(os.path.join(root, "crates", "*", "src", "**", "*.rt"), recursive=True):
         text = read(p)
         alias = {w for w in ALIAS.findall(text) if "-" in w and turned(w) not in text}
-        new = source(text, set(shared) | alias)
+        new = source(text, (set(shared) | alias) - foreign(text, own))
         if new != text:
             n += 1
             with open(p, "w", encoding="utf-8") as f:

@@ -2,7 +2,7 @@
 -- Assumes nothing.
 use Rattle.std.specs.Prelude.{◌≡◌, ℕ, ◌<◌, Bool, true, false, cond, not, List, [], ◌∷◌, length, ℤ, Some, None, ◌==◌, nat_lt, slice_index, refl}
 use Rattle.std.proofs.Common.{sym, ◌∙◌, ap, subst, append-nil, arith, length-append, take_all}
-use borrow.Author.Tests.{ltb-true, lt-ltb, eqb-true, eq-eqb, not_true, clash}
+use borrow.Author.Tests.{ltb-true, lt-ltb, eqb-true, eq-eqb, not-true, clash}
 use Rattle.std.proofs.lemmas.Bool.{and_parts, and_from}
 use Rattle.grammar.specs.declared.table.Fields.{Fields}
 use Rattle.grammar.specs.declared.table.Fields.TheVariants.{Nothing, Code, Text, Globe, Floor, Count, Radius, Height}
@@ -69,7 +69,7 @@ module _ {V : Type 0} (s : Shape V) (honest : Faithful s) where
       let k = fit_is s.fields (s.first v) (s.second v) (s.parts v) p.0 (ltb-true (s.parts v) 256 p.1) in
       let r = subst (λ (bs : List ℕ). Reads s.fields (s.first v) (s.second v) (s.parts v) bs) (append-nil (laid s v))
       (fields_read s.fields (s.first v) (s.second v) (s.parts v) [] k) in
-      rw (eq-eqb (length (laid s v)) (fixed_bytes s.fields) (long v), r.on-globe)
+      rw (eq-eqb (length (laid s v)) (fixed_bytes s.fields) (long v), r.on_globe)
       (ap Some (honest.whole (laid s v) v r.first r.second r.counts))
 
   -- bytes that were read
@@ -86,7 +86,7 @@ module _ {V : Type 0} (s : Shape V) (honest : Faithful s) where
     writes : Writes s.fields bs (s.parts (s.value bs))
     writes =
         let l = least_is s.fields bs honest.no_text in
-        fields_written s.fields bs (s.parts (s.value bs)) small honest.no_text (omega (arith, size)) (not_true _ parts.1) (honest.counts bs)
+        fields_written s.fields bs (s.parts (s.value bs)) small honest.no_text (omega (arith, size)) (not-true _ parts.1) (honest.counts bs)
 
     -- the bytes are those of the value
     pub only : laid s v ≡ bs

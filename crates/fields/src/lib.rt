@@ -1,4 +1,6 @@
 // The fixed fields of a component: which values they hold, how those lie in bytes, and how they are read and written.
+#![tactic(auto)]
+
 ghost use Rattle.std.specs.Prelude.{◌≡◌, ℕ, ◌+◌, Bool, true, ◌&&◌, ltb, List, ◌++◌, length, drop, pos, if◌then◌else◌, Some, None, Option, nat_eq, nat_le, nat_lt, slice_index};
 ghost use Rattle.grammar.specs.Grammar.{Bytes};
 ghost use Rattle.fields.specs.Shape.{code_shape, floor_shape, radius_shape, height_shape, globe_shape, count_shape};
@@ -6,20 +8,18 @@ ghost use Rattle.fields.specs.Told.{read_at, told_at, numbers_at};
 
 use grammar::Fields;
 
+mod codes;
 mod counts;
 mod floors;
 mod globes;
 mod heights;
-mod mode_code;
-mod node_code;
 mod radii;
 
+pub use codes::{Code, Id, Identifier, ModeCode, NodeCode, code_identifiers};
 pub use counts::Count;
 pub use floors::Floor;
 pub use globes::Globe;
 pub use heights::Height;
-pub use mode_code::ModeCode;
-pub use node_code::NodeCode;
 pub use radii::Radius;
 
 mod bounds;

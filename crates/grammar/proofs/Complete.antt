@@ -125,7 +125,7 @@ component_held d read f inside k depth level n at from a b m rest inner deep fit
     (by_cases (closed inside)
     (λ q. and_no (closed inside && not (is_text f)) _ (ap not (eq-eqb _ _ (let z : length rest ≡ 0 = ap length (end q) in omega arith))))
     (λ q. no_and _ _ (no_and _ _ q)))
-    (pass (off_globe f (fixed f a b m ++ rest)) _ _ w.on-globe
+    (pass (off_globe f (fixed f a b m ++ rest)) _ _ w.on_globe
     (rw w.no_text
     (go_then (read inside at (get_or (fixed f a b m ++ rest) 0 0) (suc depth) (suc level) (deeper inside n) (from + least f (fixed f a b m ++ rest)) (drop (least f (fixed f a b m ++ rest)) (fixed f a b m ++ rest))) _ {x = inner}
     (rw (drop_at (fixed f a b m) rest (least f (fixed f a b m ++ rest)) (sym size)) (reads _ (λ c. sym (w.counts c)) _))

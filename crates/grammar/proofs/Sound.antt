@@ -163,8 +163,8 @@ parts_sound d (suc f) s own c depth level n at (x ∷ xs) rows b h =
     by_then (of_kind d (parts d f) (kind_at s p.id) depth level n at (at + suc (width s)) p.body) _ h₃ λ first e₁ h₄.
     by_then (parts d f s own (c - 1) depth level n (at + suc (width s) + length p.body) p.rest) _ h₄ λ more e₂ h₅.
     let k = cut_sound (width s) level at (x ∷ xs) p b e in
-    let u = of_kind_sound d (parts d f) (parts_sound d f) s depth level n at (at + suc (width s)) p.id p.body first k.id-byte k.body_bytes k.small q₂ e₁ in
-    let r = parts_sound d f s own (c - 1) depth level n (at + suc (width s) + length p.body) p.rest more k.rest-bytes e₂ in
+    let u = of_kind_sound d (parts d f) (parts_sound d f) s depth level n at (at + suc (width s)) p.id p.body first k.id_byte k.body_bytes k.small q₂ e₁ in
+    let r = parts_sound d f s own (c - 1) depth level n (at + suc (width s) + length p.body) p.rest more k.rest_bytes e₂ in
     record {
       tree = u.put r.tree;
       legal = u.legal r.tree r.legal;
@@ -195,7 +195,7 @@ tops_sound d (suc f) seen at (x ∷ xs) rows b h =
     by_then (parts d (suc (length p.body)) Descriptions at 0 0 1 0 (at + 3) p.body) _ h₂ λ first e₁ h₃.
     by_then (tops d f true (at + 3 + length p.body) p.rest) _ h₃ λ more e₂ h₄.
     let u = parts_sound d (suc (length p.body)) Descriptions at 0 0 1 0 (at + 3) p.body first k.body_bytes e₁ in
-    let r = tops_sound d f true (at + 3 + length p.body) p.rest more k.rest-bytes e₂ in
+    let r = tops_sound d f true (at + 3 + length p.body) p.rest more k.rest_bytes e₂ in
     record {
       tree = described u.tree r.tree;
       legal = (q₂, u.legal, subst (λ (y : List ℕ). length y < 65536) (sym u.spells) k.small, r.legal);
@@ -203,10 +203,10 @@ tops_sound d (suc f) seen at (x ∷ xs) rows b h =
       tells = ap₂ (λ (y z : List Row). y ++ z) u.tells r.tells ∙ ok_ok h₄;
     })
     (λ q.
-    let r = tops_sound d f seen (at + 3 + length p.body) p.rest rows k.rest-bytes (rw q at h₁) in
+    let r = tops_sound d f seen (at + 3 + length p.body) p.rest rows k.rest_bytes (rw q at h₁) in
     record {
       tree = passed p.id p.body r.tree;
-      legal = (eqb-false p.id 1 q, k.id-byte, k.body_bytes, k.small, r.legal);
+      legal = (eqb-false p.id 1 q, k.id_byte, k.body_bytes, k.small, r.legal);
       spells = framed_top p.id p.id p.body _ p.body p.rest refl refl r.spells ∙ sym k.whole;
       tells = r.tells;
     })

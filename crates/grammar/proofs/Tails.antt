@@ -47,7 +47,7 @@ tail_sound (suc f) level l at (x ∷ xs) told b h =
     (λ q.
     by_test (heard l) _ _ (rw q at h₁) λ q₂ h₂.
     by_test (not (eqb (length p.body) 1)) _ _ h₂ λ q₃ h₃.
-    let r = tail_sound f level (Some (get_or p.body 0 0)) (at + 3) p.rest told k.rest-bytes h₃ in
+    let r = tail_sound f level (Some (get_or p.body 0 0)) (at + 3) p.rest told k.rest_bytes h₃ in
     let n = eqb-true (length p.body) 1 (not-false _ q₃) in
     let one = single p.body n in
     record {
@@ -57,12 +57,12 @@ tail_sound (suc f) level l at (x ∷ xs) told b h =
       tells = λ d. r.tells d ∙ said_once (get_or p.body 0 0) r.tree r.legal;
     })
     (λ q.
-    let r = tail_sound f level l (at + 2 + length p.body) p.rest told k.rest-bytes (rw q at h₁) in
+    let r = tail_sound f level l (at + 2 + length p.body) p.rest told k.rest_bytes (rw q at h₁) in
     let z = eqb-false p.id 0 q in
     record {
       tree = other p.id p.body r.tree;
       spells = other_whole (x ∷ xs) p.body p.rest (tail_bytes r.tree) p.id (whole_one _ p k) r.spells;
-      legal = (omega arith, k.id-byte, k.body_bytes, k.small, r.legal);
+      legal = (omega arith, k.id_byte, k.body_bytes, k.small, r.legal);
       tells = r.tells;
     })
 

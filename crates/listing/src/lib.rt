@@ -1,9 +1,11 @@
 // The text that says what bytes are: a container's rows, a line each, or the refusal.
+#![tactic(auto)]
+
 ghost use Rattle.std.specs.Prelude.{◌≡◌, ◌<◌, ◌++◌, length as long, IfOk, Some, string_bytes, OnOk};
 ghost use Rattle.location.specs.Answers.{head_row, head_text};
-ghost use Rattle.listing.specs.Listed.{hex_digit, hex, text_line, numbers_line, first_line, row_count, listed, no_line, refused, shown};
+ghost use Rattle.listing.specs.Listed.{hex_digit, hex, text_line, numbers_line, first_line, row_count, listed, refused, shown};
 
-use air::Container;
+use reader::Container;
 use grammar::ReadFault;
 use location::{Location, Row};
 use std::alloc::{AllocError, Global};
@@ -11,7 +13,7 @@ use std::alloc::{AllocError, Global};
 mod restated;
 mod unhexed;
 
-pub use restated::{list_column, list_restated, list_sent, push_hexes};
+pub use restated::{list_column, list_restated, list_sent, push_hexes, refusal_line};
 pub use unhexed::{hex_reads_back, read_hex};
 
 // The upper-case hexadecimal digit of a value below 16.
@@ -43,8 +45,8 @@ fn push_text<L: Location>(
     at: L::Mark,
     length: u8,
 ) -> Result<(), AllocError>
-    requires { length ≡ long (head_text (rows l.now at)) }
-    ensures { OnOk result (string_bytes out.new ≡ string_bytes out.old ++ text_line (head_text (rows l.now at))) }
+    requires { length ≡ long (head_text (L.rows l.now at)) }
+    ensures { OnOk result (string_bytes out.new ≡ string_bytes out.old ++ text_line (head_text (L.rows l.now at))) }
 {
     if length == 0 {
         return out.push('-');
@@ -57,25 +59,19 @@ fn push_text<L: Location>(
     Ok(())
 }
 
-// Five numbers, each with a blank after it.
-fn numbers_text(
-    heap: Global,
-    depth: u8,
-    kind: u8,
-    a: i32,
-    b: i32,
-    language: u8,
-) -> Result<String, AllocError>
-    ensures { IfOk result (λ s. string_bytes s ≡ numbers_line depth kind a b language) }
-{
-    format!(in heap; "{depth} {kind} {a} {b} {language} ")
-}
-
-// The numbers of a row.
+// The numbers of a row, each with a blank after it.
 fn row_numbers(heap: Global, row: Row) -> Result<String, AllocError>
     ensures { IfOk result (λ s. string_bytes s ≡ numbers_line row.depth row.kind row.a row.b row.language) }
 {
-    numbers_text(heap, row.depth, row.kind, row.a, row.b, row.language)
+    let Row {
+        depth,
+        kind,
+        a,
+        b,
+        language,
+        length: _,
+    } = row;
+    format!(in heap; "{depth} {kind} {a} {b} {language} ")
 }
 
 // The line of the row at a mark.
@@ -86,8 +82,8 @@ fn push_line<L: Location>(
     at: L::Mark,
     row: Row,
 ) -> Result<(), AllocError>
-    requires { Some row ≡ head_row (rows l.now at) }
-    ensures { OnOk result (string_bytes out.new ≡ string_bytes out.old ++ first_line (rows l.now at)) }
+    requires { Some row ≡ head_row (L.rows l.now at) }
+    ensures { OnOk result (string_bytes out.new ≡ string_bytes out.old ++ first_line (L.rows l.now at)) }
 {
     let numbers = row_numbers(heap, row)?;
     out.push_str(numbers.as_str())?;
@@ -98,7 +94,7 @@ fn push_line<L: Location>(
 
 // How many rows a location has, as far as 64 bits count.
 pub fn count_rows<L: Location>(l: &L) -> u64
-    ensures { result ≡ row_count (whole l.now) }
+    ensures { result ≡ row_count (L.whole l.now) }
 {
     let mut count: u64 = 0;
     let mut at = l.first();
@@ -111,7 +107,7 @@ pub fn count_rows<L: Location>(l: &L) -> u64
 
 // The number of a location's rows, and then a line for each.
 pub fn list_rows<L: Location>(heap: Global, l: &L) -> Result<String, AllocError>
-    ensures { IfOk result (λ s. string_bytes s ≡ listed (whole l.now)) }
+    ensures { IfOk result (λ s. string_bytes s ≡ listed (L.whole l.now)) }
 {
     let count = count_rows(l);
     let mut out = format!(in heap; "ROWS {count}\n")?;
@@ -127,17 +123,13 @@ pub fn list_rows<L: Location>(heap: Global, l: &L) -> Result<String, AllocError>
 }
 
 // The number of a refusal, its place and its level.
-pub fn refusal_line(heap: Global, number: u8, place: usize, level: u8) -> Result<String, AllocError>
-    ensures { IfOk result (λ s. string_bytes s ≡ no_line number place level) }
-{
-    format!(in heap; "NO {number} {place} {level}\n")
-}
-
-// Why bytes are no container.
 pub fn list_fault(heap: Global, fault: ReadFault) -> Result<String, AllocError>
     ensures { IfOk result (λ s. string_bytes s ≡ refused fault) }
 {
-    refusal_line(heap, fault.number(), fault.place(), fault.level())
+    let number = fault.number();
+    let place = fault.place();
+    let level = fault.level();
+    format!(in heap; "NO {number} {place} {level}\n")
 }
 
 // What bytes are: the rows of the container, or why they are none.

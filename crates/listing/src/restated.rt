@@ -1,13 +1,13 @@
 // The text that says what is sent for a container's rows.
 ghost use Rattle.std.specs.Prelude.{◌≡◌, ◌++◌, IfOk, string_bytes, codes, OnOk};
 ghost use Rattle.grammar.specs.Sending.{sending_into};
-ghost use Rattle.listing.specs.Listed.{hexes, text_line};
+ghost use Rattle.listing.specs.Listed.{hexes, text_line, no_line};
 ghost use Rattle.listing.specs.Restated.{send_refused, sent_line, send_line, with_sent, restated, right_of, right_by, column};
 ghost use Rattle.grammar.specs.Reading.{reading};
 ghost use Rattle.pile.specs.Through.{in_order, left_by_all};
 
-use super::{list_fault, list_rows, push_hex, refusal_line};
-use air::Container;
+use super::{list_fault, list_rows, push_hex};
+use reader::Container;
 use grammar::SendFault;
 use location::Location;
 use pile::{Layered, Order, pile_up};
@@ -37,6 +37,13 @@ fn bytes_line(heap: Global, lead: &str, bytes: &[u8]) -> Result<String, AllocErr
     Ok(out)
 }
 
+// The line of a refusal: its number, its place and its level.
+pub fn refusal_line(heap: Global, number: u8, place: usize, level: u8) -> Result<String, AllocError>
+    ensures { IfOk result (λ s. string_bytes s ≡ no_line number place level) }
+{
+    format!(in heap; "NO {number} {place} {level}\n")
+}
+
 // Why rows are not sent.
 fn list_unsent(heap: Global, fault: SendFault) -> Result<String, AllocError>
     ensures { IfOk result (λ s. string_bytes s ≡ send_refused fault) }
@@ -46,7 +53,7 @@ fn list_unsent(heap: Global, fault: SendFault) -> Result<String, AllocError>
 
 // What is sent for a location, behind a word; or why nothing is.
 pub fn list_sent<L: Location>(heap: Global, lead: &str, l: &L) -> Result<String, AllocError>
-    ensures { IfOk result (λ s. string_bytes s ≡ send_line lead.now (sending_into (whole l.now) 65535)) }
+    ensures { IfOk result (λ s. string_bytes s ≡ send_line lead.now (sending_into (L.whole l.now) 65535)) }
 {
     let mut room = [0u8; LONGEST];
     match send(l, &mut room) {
@@ -57,7 +64,7 @@ pub fn list_sent<L: Location>(heap: Global, lead: &str, l: &L) -> Result<String,
 
 // The rows of a location, and what is sent for it.
 fn list_with_sent<L: Location>(heap: Global, l: &L) -> Result<String, AllocError>
-    ensures { IfOk result (λ s. string_bytes s ≡ with_sent (whole l.now)) }
+    ensures { IfOk result (λ s. string_bytes s ≡ with_sent (L.whole l.now)) }
 {
     let mut out = list_rows(heap, l)?;
     let sent = list_sent(heap, "SEND ", l)?;
@@ -71,7 +78,7 @@ fn list_piled<L: Location + Drop>(
     below: L,
     order: Order,
 ) -> Result<String, AllocError>
-    ensures { IfOk result (λ s. string_bytes s ≡ with_sent (left_by_all (in_order order) (whole below))) }
+    ensures { IfOk result (λ s. string_bytes s ≡ with_sent (left_by_all (in_order order) (L.whole below))) }
 {
     let pile = pile_up(below, order);
     list_with_sent(heap, &pile)
@@ -103,7 +110,7 @@ fn right_piled<L: Location + Drop>(
     below: L,
     order: Order,
 ) -> Result<String, AllocError>
-    ensures { IfOk result (λ s. string_bytes s ≡ right_of (codes "") (left_by_all (in_order order) (whole below))) }
+    ensures { IfOk result (λ s. string_bytes s ≡ right_of (codes "") (left_by_all (in_order order) (L.whole below))) }
 {
     let pile = pile_up(below, order);
     list_sent(heap, "", &pile)

@@ -39,8 +39,8 @@ fn is_inside(out: Option<u8>, depth: u8) -> bool
 
 // The mark of the first row from m on that stays, with that row; where none stays, the end.
 fn settle<L: Location>(below: &L, levels: u8, m: L::Mark) -> (L::Mark, Option<Row>)
-    ensures mark { UncutFrom levels (rows below.now m) (rows below.now result.0) }
-    ensures row { result.1 ≡ head_row (rows below.now result.0) }
+    ensures mark { UncutFrom levels (L.rows below.now m) (L.rows below.now result.0) }
+    ensures row { result.1 ≡ head_row (L.rows below.now result.0) }
 {
     let mut at = m;
     let mut out = None;

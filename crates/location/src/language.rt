@@ -29,8 +29,8 @@ fn stays(language: u8, row: Row) -> bool
 
 // The mark of the first row from m on that stays, with that row; where none stays, the end.
 fn settle<L: Location>(below: &L, language: u8, m: L::Mark) -> (L::Mark, Option<Row>)
-    ensures mark { SpokenFrom language (rows below.now m) (rows below.now result.0) }
-    ensures row { result.1 ≡ head_row (rows below.now result.0) }
+    ensures mark { SpokenFrom language (L.rows below.now m) (L.rows below.now result.0) }
+    ensures row { result.1 ≡ head_row (L.rows below.now result.0) }
 {
     let mut at = m;
     while let Some(row) = below.row(at) {

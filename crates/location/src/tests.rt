@@ -88,14 +88,14 @@ impl<L: Location> Location for Then<L> {
 
 // The first row of a location.
 fn head<L: Location>(location: &L) -> Option<Row>
-    ensures { result ≡ head_row (whole location.now) }
+    ensures { result ≡ head_row (L.whole location.now) }
 {
     location.row(location.first())
 }
 
 // The first row under three layers.
 fn head_of_three<L: Location>(location: &L, more: u8, language: u8, fewer: u8) -> Option<Row>
-    ensures { result ≡ head_row (cut fewer (one_language language (cut more (whole location.now)))) }
+    ensures { result ≡ head_row (cut fewer (one_language language (cut more (L.whole location.now)))) }
 {
     head(&Cut::new(OneLanguage::new(Cut::new(location, more), language), fewer))
 }

@@ -12,9 +12,9 @@ use Rattle.grammar.specs.Walk.{read_or}
 use Rattle.grammar.proofs.Cut.{by_cases}
 use Rattle.grammar.proofs.Steps.{tail_done}
 use Rattle.grammar.proofs.Walked.{first_way, other_way}
-use Rattle.reader.specs.declared.sights.Component.{Component}
-use Rattle.reader.specs.declared.sights.Standing.{Standing}
-use Rattle.reader.specs.declared.sights.Standing.TheVariants.{Known, Unknown, Unread}
+use Rattle.reader.specs.declared.standings.Component.{Component}
+use Rattle.reader.specs.declared.standings.Standing.{Standing}
+use Rattle.reader.specs.declared.standings.Standing.TheVariants.{Known, Unknown, Unread}
 use Rattle.reader.specs.Stands.{known_at, stands_at, language_in}
 
 -- the two ways of a test, and of a reading, where what is to show speaks of it

@@ -6,9 +6,9 @@ use Rattle.grammar.specs.Reading.{Spoken, if}
 use Rattle.grammar.specs.Offsets as O
 use Rattle.grammar.specs.Checks.{tail_of}
 use Rattle.grammar.specs.Walk.{read_or}
-use Rattle.reader.specs.declared.sights.Component.{Component}
-use Rattle.reader.specs.declared.sights.Standing.{Standing}
-use Rattle.reader.specs.declared.sights.Standing.TheVariants.{Known, Unknown, Unread}
+use Rattle.reader.specs.declared.standings.Component.{Component}
+use Rattle.reader.specs.declared.standings.Standing.{Standing}
+use Rattle.reader.specs.declared.standings.Standing.TheVariants.{Known, Unknown, Unread}
 
 module _ (bs : List ℕ) where
   -- the component of kind k whose data go from `from` to `to`, if its fixed fields keep to it and are on the globe

@@ -1,115 +1,182 @@
-// What stands at a place of a container, for whoever goes over one without naming faults.
-ghost use Rattle.std.specs.Prelude.{◌≡◌, ◌≤◌, length};
-ghost use Rattle.grammar.specs.Walk.{data_from};
-ghost use Rattle.reader.specs.Stands.{known_at, stands_at, language_in};
+// What is found at a mark of a container.
+ghost use Rattle.std.specs.Prelude.{◌≡◌, ◌+◌, ◌<◌, ◌≤◌, length as long, if◌then◌else◌, nat_le, slice_index};
+ghost use Rattle.std.specs.List.{slice_get};
+ghost use Rattle.grammar.specs.declared.table.Fields.TheVariants.{Text};
+ghost use Rattle.grammar.specs.Grammar.{Bytes};
+ghost use Rattle.grammar.specs.Offsets.{least};
+ghost use Rattle.grammar.specs.Reading.{or_else};
+ghost use Rattle.grammar.specs.Walk.{language_at};
+ghost use Rattle.location.specs.Answers.{seen, laid_over};
+ghost use Rattle.reader.specs.Seen.{Stepped, Sighted, StandingAt, Within, told_row};
 
-use super::edge::Reader;
-use super::parts::{Part, fields_size, header, open_part, read_language};
+use super::marks::{Frame, MOST_HOLDERS, Mark};
+use super::standings::{Component, Standing, language_in, look_at};
 use fields::numbers;
-use grammar::{DESCRIPTIONS, Spot, TOP_WIDTH, layout_of};
+use grammar::layout_of;
+use location::Row;
 
-// A known component, whose fixed fields keep to it: where its data begin, where its parts do, and where it ends.
+// A row that a mark stands at: its component, and the mark of the rows after it.
 #[derive(Clone, Copy)]
-pub struct Component {
-    pub kind: u8,
-    pub from: usize,
-    pub inside: usize,
-    pub stop: usize,
+pub(crate) struct Sight {
+    depth: u8,
+    kind: u8,
+    from: usize,
+    stop: usize,
+    pub(crate) next: Mark,
 }
 
-// What stands at a place inside a holder.
+// What is found at a mark: a row, nothing yet but a mark further on with the same rows, or the end.
 #[derive(Clone, Copy)]
-pub enum Standing {
-    Known(Component),
-    // an unknown component, which ends there
-    Unknown(usize),
-    // the holder's end, or what cannot be read
-    Unread,
+pub(crate) enum Step {
+    Row(Sight),
+    Pass(Mark),
+    End,
 }
 
-// The component that was opened, at whose data the reader stands.
-fn keep(bytes: &[u8], reader: &Reader, part: Part) -> Standing
-    requires order { reader.now.at ≤ part.stop }
-    requires within { part.stop ≤ length bytes.now }
-    ensures { result ≡ known_at bytes.now part.kind reader.now.at part.stop }
+// The known component at a mark, as a row.
+fn enter(bytes: &[u8], mark: Mark, frame: Frame, component: Component) -> Step
+    requires { StandingAt bytes.now mark frame component }
+    ensures { Stepped bytes.now mark result }
 {
-    let from = reader.at;
-    let inner = Reader {
-        at: from,
-        end: part.stop,
-    };
-    let Some(size) = fields_size(bytes, &inner, part.kind) else {
-        return Standing::Unread;
-    };
-    if numbers(layout_of(part.kind).fields, bytes, from).is_none() {
-        return Standing::Unread;
-    }
-    Standing::Known(Component {
-        kind: part.kind,
+    let Component {
+        kind,
         from,
-        inside: from + size,
-        stop: part.stop,
+        inside,
+        stop,
+    } = component;
+    let depth = mark.held - 1;
+    let spot = layout_of(kind).inside;
+    if spot.is_closed() {
+        let next = mark.moved(stop);
+        return Step::Row(Sight {
+            depth,
+            kind,
+            from,
+            stop,
+            next,
+        });
+    }
+    if usize::from(mark.held) >= MOST_HOLDERS {
+        return Step::End;
+    }
+    let next = mark.push(Frame { end: stop, spot }, inside);
+    Step::Row(Sight {
+        depth,
+        kind,
+        from,
+        stop,
+        next,
     })
 }
 
-// What stands at a place inside a holder whose data end at `end`.
-pub fn look_at(bytes: &[u8], spot: Spot, at: usize, end: usize) -> Standing
-    ensures { result ≡ stands_at bytes.now spot at end }
+// What is found at a mark.
+fn take_step(bytes: &[u8], mark: Mark) -> Step
+    ensures { Stepped bytes.now mark result }
 {
-    if end > bytes.len() {
-        return Standing::Unread;
+    if mark.held == 0 {
+        return Step::End;
     }
-    if end <= at {
-        return Standing::Unread;
+    let frame = mark.top();
+    if frame.end > bytes.len() {
+        return Step::End;
     }
-    let mut reader = Reader { at, end };
-    let Ok(found) = open_part(bytes, &mut reader, spot, 0) else {
-        return Standing::Unread;
-    };
-    match found {
-        Some(part) => keep(bytes, &reader, part),
-        None => Standing::Unknown(reader.at),
+    if frame.end <= mark.at {
+        return Step::Pass(mark.popped());
+    }
+    match look_at(bytes, frame.spot, mark.at, frame.end) {
+        Standing::Known(component) => enter(bytes, mark, frame, component),
+        Standing::Unknown(stop) => Step::Pass(mark.moved(stop)),
+        Standing::Unread => Step::End,
     }
 }
 
-// The language that a text's own components say, if they say one and can be read.
-pub fn language_in(bytes: &[u8], from: usize, stop: usize) -> Option<u8>
-    ensures { result ≡ language_in bytes.now from stop }
+// The first row from a mark on.
+pub(crate) fn find(bytes: &[u8], mark: Mark) -> Option<Sight>
+    ensures { Sighted bytes.now mark result }
 {
-    if stop > bytes.len() {
-        return None;
-    }
-    if stop <= from {
-        return None;
-    }
-    let mut reader = Reader {
-        at: from,
-        end: stop,
-    };
-    read_language(bytes, &mut reader, 0).unwrap_or(None)
-}
-
-// Where the data of the descriptions start and end; both 0 where there are none.
-pub fn find_descriptions(bytes: &[u8]) -> (usize, usize)
-    ensures start { result.0 ≡ (data_from bytes.now 1).start }
-    ensures end { result.1 ≡ (data_from bytes.now 1).end }
-{
-    if bytes.is_empty() {
-        return (0, 0);
-    }
-    let mut reader = Reader {
-        at: 1,
-        end: bytes.len(),
-    };
-    while reader.at < reader.end {
-        let place = reader.at;
-        let Ok(stop) = header(bytes, &mut reader, TOP_WIDTH, 0) else {
-            return (0, 0);
-        };
-        if bytes[place] == DESCRIPTIONS {
-            return (reader.at, stop);
+    let mut at = mark;
+    loop {
+        match take_step(bytes, at) {
+            Step::Row(sight) => return Some(sight),
+            Step::Pass(next) => at = next,
+            Step::End => return None,
         }
-        reader.at = stop;
     }
-    (0, 0)
+}
+
+// The language of the text that a row's data hold.
+fn language_of(bytes: &[u8], from: usize, stop: usize) -> u8
+    requires text { from + least bytes.now Text from ≤ stop }
+    requires within { stop ≤ long bytes.now }
+    ensures { result ≡ language_at bytes.now (slice_index bytes.now 0) from stop }
+{
+    let parts = from + 1 + usize::from(bytes[from]);
+    language_in(bytes, parts, stop).unwrap_or(bytes[0])
+}
+
+// The row that was found.
+pub(crate) fn row_of(bytes: &[u8], sight: &Sight) -> Row
+    requires { Within bytes.now sight.now }
+    ensures { result ≡ seen (told_row bytes.now sight.now) }
+{
+    let layout = layout_of(sight.kind);
+    if layout.is_text() {
+        let language = language_of(bytes, sight.from, sight.stop);
+        return Row {
+            depth: sight.depth,
+            kind: sight.kind,
+            a: 0,
+            b: 0,
+            language,
+            length: bytes[sight.from],
+        };
+    }
+    let (a, b) = numbers(layout.fields, bytes, sight.from).unwrap_or((0, 0));
+    Row {
+        depth: sight.depth,
+        kind: sight.kind,
+        a,
+        b,
+        language: 0,
+        length: 0,
+    }
+}
+
+// Byte i of its text.
+pub(crate) fn byte_of(bytes: &[u8], sight: &Sight, i: usize) -> Option<u8>
+    requires { Within bytes.now sight.now }
+    ensures { result ≡ slice_get (told_row bytes.now sight.now).text i }
+{
+    if layout_of(sight.kind).is_text() && i < usize::from(bytes[sight.from]) {
+        Some(bytes[sight.from + 1 + i])
+    } else {
+        None
+    }
+}
+
+// Its text.
+pub(crate) fn text_of<'a>(bytes: &'a [u8], sight: &Sight) -> &'a [u8]
+    requires { Within bytes.now sight.now }
+    ensures text { result.now ≡ (told_row bytes.now sight.now).text }
+    ensures bytes { Bytes result.now }
+{
+    if !layout_of(sight.kind).is_text() {
+        return &bytes[..0];
+    }
+    let from = sight.from + 1;
+    let length = usize::from(bytes[sight.from]);
+    &bytes[from..from + length]
+}
+
+// Copies a text to the front of `out` at once, if it fits.
+pub(crate) fn copy_to(text: &[u8], out: &mut [u8]) -> bool
+    ensures fits { result ≡ nat_le (long text.now) (long out.old) }
+    ensures wrote { out.new ≡ (if result then laid_over text.now out.old else out.old) }
+{
+    let length = text.len();
+    if length > out.len() {
+        return false;
+    }
+    out[..length].copy_from_slice(text);
+    true
 }

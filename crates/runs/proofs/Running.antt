@@ -165,7 +165,7 @@ module _ (size : ℕ) (calls : List Call) (i : ℕ) (d : Call) (h : i < length c
         ap (λ (s : Stage). judge s (size_of desk) (rows_held desk) (rows_open desk) here) t.stage_is
         ∙ ap (λ (n : ℕ). judge (stage log) n (rows_held desk) (rows_open desk) here) t.size_is
         ∙ ap (λ (rs : Rows). judge (stage log) size rs (rows_open desk) here) t.rows_are
-        ∙ ap (λ (ks : List ℕ). judge (stage log) size (S.held log) ks here) t.open-are
+        ∙ ap (λ (ks : List ℕ). judge (stage log) size (S.held log) ks here) t.open_are
 
     pub tied_more : (after : Draft) (live' : Bool) → Turned (stage_at live) (rows_held desk) (rows_open desk) here (answer_on desk live (get_or calls i d)) after live'
         → size_of after ≡ size_of desk → Tied size after live' (since [] (entries size [] (map called (take (i + 1) calls))))
@@ -174,17 +174,17 @@ module _ (size : ℕ) (calls : List Call) (i : ℕ) (d : Call) (h : i < length c
         (record {
           rows_are = w.rows_then
               ∙ ap (λ (x : S.Answer). rows_after here x (length (rows_open desk)) (rows_held desk)) answered
-              ∙ ap (λ (ks : List ℕ). rows_after here new.answer (length ks) (rows_held desk)) t.open-are
+              ∙ ap (λ (ks : List ℕ). rows_after here new.answer (length ks) (rows_held desk)) t.open_are
               ∙ ap (λ (rs : Rows). rows_after here new.answer (length (opened log)) rs) t.rows_are
               ∙ sym (held_more here new.answer log);
-          open_are = w.open-then
+          open_are = w.open_then
               ∙ ap (λ (x : S.Answer). if_accepted x (opened_by here (rows_open desk)) (rows_open desk)) answered
-              ∙ ap (λ (ks : List ℕ). if_accepted new.answer (opened_by here ks) ks) t.open-are;
+              ∙ ap (λ (ks : List ℕ). if_accepted new.answer (opened_by here ks) ks) t.open_are;
           stage_is = w.stage_then
               ∙ ap (λ (x : S.Answer). if_accepted x (stage_by here (stage_at live)) (stage_at live)) answered
               ∙ ap (λ (s : Stage). if_accepted new.answer (stage_by here s) s) t.stage_is;
           size_is = n ∙ t.size_is;
-          closed = w.closed-then;
+          closed = w.closed_then;
         })
 
     pub shown_more : (before answers : List Answer) (a : Answer) → i < length before → answers ≡ map shown_in so_far ++ drop i before

@@ -123,11 +123,11 @@ module _ (d : ℕ) (r : Row) (rs : Rows) (l : Level) (more : List Level) where
         omega arith,
       )
 
-abbrev Goes_on : Row → Rows → List Level → Type 0
-Goes_on r rs ls = elim ls [ [] ↦ false | l ∷ more ↦ row_stands l r (held_count r.depth rs) && admits (opened l more r) rs ] ≡ true
+abbrev GoesOn : Row → Rows → List Level → Type 0
+GoesOn r rs ls = elim ls [ [] ↦ false | l ∷ more ↦ row_stands l r (held_count r.depth rs) && admits (opened l more r) rs ] ≡ true
 
 -- a row and those after it, where they can be written whatever levels are open
-at_levels : (d : ℕ) (r : Row) (rs : Rows) (ls : List Level) → length ls ≡ suc r.depth → Goes_on r rs ls
+at_levels : (d : ℕ) (r : Row) (rs : Rows) (ls : List Level) → length ls ≡ suc r.depth → GoesOn r rs ls
     → RowFits (is_text (layout r.kind).fields) d r → length (flat d (r ∷ rs)) ≤ 65535
     → ((xs : List Level) → admits xs rs ≡ true → Writable d rs) → RowWritable d r rs × Writable d rs
 at_levels d r rs [] q e f n w = absurd (false≢true e)

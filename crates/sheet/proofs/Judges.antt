@@ -1,7 +1,7 @@
 -- The first of the conditions that refuse a row, and what they say of the rows held.
 -- Assumes nothing.
 use Rattle.std.proofs.Common.{◌≡◌, ℕ, zero, suc, ◌+◌, ◌-◌, ◌<◌, ◌≤◌, Bool, true, false, not, ◌&&◌, eqb, ltb, leb, List, [], ◌∷◌, ◌++◌, length, Ok, Err, sym, refl, ap, ◌∙◌, subst, arith, ltb-false, ltb-true, le-ltb, lt-ltb, le-leb, leb-false, leb-true}
-use borrow.Author.Tests.{lt-leb, not_true, not-false}
+use borrow.Author.Tests.{lt-leb, not-true, not-false}
 use Rattle.std.proofs.lemmas.List.{length-append}
 use Rattle.grammar.specs.declared.fault.SheetFault.{SheetFault}
 use Rattle.grammar.specs.declared.fault.SheetFault.TheVariants.{NinthNode, Misplaced, Unfit, TooManyRows, TooCostly}

@@ -8,7 +8,7 @@ use crate::judge::{Asked, longest_text};
 use crate::kept::{Draft, Fair};
 use crate::opened::Opened;
 use crate::store::Store;
-use air::Container;
+use reader::Container;
 use fields::fits_numbers;
 use grammar::{SheetFault, layout_of};
 

@@ -2,7 +2,7 @@
 ghost use Rattle.std.specs.Prelude.{◌≡◌};
 ghost use Rattle.tpegloc.specs.Coded.{checked, restated, Restates};
 
-use air::Container;
+use reader::Container;
 use sender::send;
 
 // What the number of a refusal is added to.

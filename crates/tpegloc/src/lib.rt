@@ -3,7 +3,7 @@ mod for_c;
 mod pair;
 mod trials;
 
-pub use air::Container;
+pub use reader::Container;
 pub use pair::{Agreement, agree};
 pub use reader::check;
 pub use sender::send;

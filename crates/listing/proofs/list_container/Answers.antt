@@ -1,7 +1,7 @@
 use Rattle.std.proofs.Common.{sym, ap, ◌∙◌}
 use Rattle.std.proofs.lemmas.Result.{IfOk-weaker}
 use Rattle.grammar.proofs.Complete.{reading_complete}
-use Rattle.air.specs.Whole.{rows_of}
+use Rattle.reader.specs.Whole.{rows_of}
 use Rattle.listing.specs.Listed.{answered}
 use Rattle.listing.proofs.list_container.Goals as goal
 

@@ -3,7 +3,7 @@ use Rattle.std.proofs.lemmas.Result.{IfOk-weaker}
 use Rattle.grammar.specs.Grammar.{Rows}
 use Rattle.grammar.specs.Reading.{Read}
 use Rattle.grammar.proofs.Complete.{reading_complete}
-use Rattle.air.specs.Whole.{rows_of}
+use Rattle.reader.specs.Whole.{rows_of}
 use Rattle.pile.specs.Through.{in_order}
 use Rattle.listing.specs.Restated.{right_by}
 use Rattle.listing.proofs.restated.list_right.Goals as goal

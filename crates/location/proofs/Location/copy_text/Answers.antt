@@ -3,7 +3,7 @@ use Rattle.grammar.specs.Grammar.{Bytes}
 use Rattle.location.specs.Answers.{head_text}
 use Rattle.location.proofs.Copied.{head_long, head_none, nth_some, copied_one, bytes_one}
 use Rattle.location.proofs.Location.copy_text.Goals as goal
-use Rattle.location.proofs.Location.copy_text.Goals.{in-Some, in-None, in-Some-byte, in-default}
+use Rattle.location.proofs.Location.copy_text.Goals.{in-Some, in-None, in-Some-byte, in_default}
 
 pub loop-i-init : goal.loop-i-init
 loop-i-init g c = (refl, tt)
@@ -22,7 +22,7 @@ loop-i-preserved g c =
         w.out-is ∙ copied_one t c.args.out.now c.loop-i.out c.loop-i.i w.in-Some-byte.b i.0 (omega arith) (omega arith) w.in-Some-byte.ensures,
         bytes_one t c.loop-i.i w.in-Some-byte.b i.1 w.in-Some-byte.ensures (search rules),
       )
-      | in-default w ↦ let z = nth_some t c.loop-i.i w.in-default.ensures in absurd (omega arith)
+      | in_default w ↦ let z = nth_some t c.loop-i.i w.in_default.ensures in absurd (omega arith)
     ]
 
 pub returns : goal.returns

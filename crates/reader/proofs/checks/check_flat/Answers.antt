@@ -48,11 +48,11 @@ returns c =
     let to = c.args.part.stop in
     let from = c.args.reader.now.at in
     let q = ap₂ (λ (x y : ℕ). data_of bs (layout k) c.args.level c.args.part.place x y) (sym c.narrow-inner.ensures.at) (sym c.narrow-inner.ensures.end)
-    ∙ sym c.pass-data.ensures.value ∙ c.in-ok-pass-data.was in
-    let m = c.in-ok-pass-data.ensures.moved in
-    let e = c.pass-data.ensures.edge ∙ c.narrow-inner.ensures.end in
-    let r = λ (n : ℕ) (few : n ≤ 8). ap (λ (l : Layout). parts_of bs l.inside (c.args.level + 1) n c.in-ok-pass-data.field-0 to) (sym c.layout-of.ensures)
-    ∙ ap₂ (λ (x y : ℕ). parts_of bs c.layout-of.result.inside (c.args.level + 1) n x y) (sym m.0) (sym e)
+    ∙ sym c.pass_data.ensures.value ∙ c.in_ok-pass_data.was in
+    let m = c.in_ok-pass_data.ensures.moved in
+    let e = c.pass_data.ensures.edge ∙ c.narrow-inner.ensures.end in
+    let r = λ (n : ℕ) (few : n ≤ 8). ap (λ (l : Layout). parts_of bs l.inside (c.args.level + 1) n c.in_ok-pass_data.field-0 to) (sym c.layout_of.ensures)
+    ∙ ap₂ (λ (x y : ℕ). parts_of bs c.layout_of.result.inside (c.args.level + 1) n x y) (sym m.0) (sym e)
     ∙ sym (c.check-leaves.ensures.value n few) ∙ c.in-ok-rows.was in
     let v = c.in-ok-rows.ensures.moved in
     let there : c.drop-inner-2.new.self.0.at ≡ to = c.drop-inner-2.ensures.at ∙ v.0 ∙ e in

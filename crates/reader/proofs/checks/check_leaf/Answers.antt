@@ -28,9 +28,9 @@ returns c =
     let to = c.args.part.stop in
     let from = c.args.reader.now.at in
     let q = ap₂ (λ (x y : ℕ). data_of bs (layout k) c.args.level c.args.part.place x y) (sym c.narrow-inner.ensures.at) (sym c.narrow-inner.ensures.end)
-    ∙ sym c.pass-data.ensures.value ∙ c.in-ok-pass-data.was in
+    ∙ sym c.pass_data.ensures.value ∙ c.in_ok-pass_data.was in
     let e = data_closed bs k c.args.level c.args.part.place from to _ c.requires.leaf.1 q in
-    let m = c.in-ok-pass-data.ensures.moved in
+    let m = c.in_ok-pass_data.ensures.moved in
     let there : c.drop-inner-2.new.self.0.at ≡ to = omega (arith, c.drop-inner-2.ensures.at) in
     record {
       value = λ n few. sym (leaf_ok bs k c.args.level n c.args.part.place from to (omega arith) (omega arith) (omega arith) (omega arith)

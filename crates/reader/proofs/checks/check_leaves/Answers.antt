@@ -58,30 +58,30 @@ pub loop-reader-preserved-in-Some : goal.loop-reader-preserved-in-Some
 loop-reader-preserved-in-Some c =
     let i = c.loop-reader.invariant in
     let o = open_spot c.args.spot c.requires.leaves c.loop-reader.reader.at c.loop-reader.reader.end (omega arith) i.3 in
-    let f = rw c.in-Some.is at c.in-ok-part.ensures.found in
-    let m = c.in-ok-rows.ensures.moved in
-    let e = c.open-part.ensures.edge in
+    let f = rw c.in-Some.is at c.in_ok-part.ensures.found in
+    let m = c.in_ok-rows.ensures.moved in
+    let e = c.open_part.ensures.edge in
     let e₂ = c.check-leaf.ensures.edge in (
       omega (arith, f.6),
       omega arith,
       omega (arith, f.3),
       (λ y. let z = i.3 y in absurd (omega arith)),
       λ n few.
-          turn_ok c.args.bytes.now c.args.spot c.args.level n _ _ _ _ (i.4 n few) (omega arith) (omega arith) o c.in-Some.part c.open-part.new.reader f _ _ _
-          (sym (c.check-leaf.ensures.value n few) ∙ c.in-ok-rows.was) m.0 (omega arith),
+          turn_ok c.args.bytes.now c.args.spot c.args.level n _ _ _ _ (i.4 n few) (omega arith) (omega arith) o c.in-Some.part c.open_part.new.reader f _ _ _
+          (sym (c.check-leaf.ensures.value n few) ∙ c.in_ok-rows.was) m.0 (omega arith),
     )
 
 pub loop-reader-preserved : goal.loop-reader-preserved
 loop-reader-preserved c =
     let i = c.loop-reader.invariant in
     let o = open_spot c.args.spot c.requires.leaves c.loop-reader.reader.at c.loop-reader.reader.end (omega arith) i.3 in
-    let f = rw c.in-default.is at c.in-ok-part.ensures.found in
-    let e = c.open-part.ensures.edge in (
+    let f = rw c.in_default.is at c.in_ok-part.ensures.found in
+    let e = c.open_part.ensures.edge in (
       omega (arith, f.3),
       omega arith,
       omega (arith, f.2),
       (λ y. let z = i.3 y in absurd (omega arith)),
-      λ n few. turn_unknown c.args.bytes.now c.args.spot c.args.level n _ _ _ _ (i.4 n few) (omega arith) (omega arith) o c.open-part.new.reader f e,
+      λ n few. turn_unknown c.args.bytes.now c.args.spot c.args.level n _ _ _ _ (i.4 n few) (omega arith) (omega arith) o c.open_part.new.reader f e,
     )
 
 pub returns : goal.returns

@@ -27,7 +27,7 @@ returns-in-err-part c =
 
 pub returns-in-None : goal.returns-in-None
 returns-in-None c =
-    let f = rw c.in-None.is at c.in-ok-part.ensures.found in
+    let f = rw c.in-None.is at c.in_ok-part.ensures.found in
     record {
       edge = search rules;
       found = λ m n some. nodes_other c.args.bytes.now c.args.level n c.args.place _ _ m some (omega arith) (omega arith) _ f.0

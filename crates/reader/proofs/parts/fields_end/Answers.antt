@@ -4,7 +4,7 @@ use Rattle.grammar.specs.Offsets.{ends_there}
 use Rattle.reader.specs.Fielded.{fields_end}
 use Rattle.reader.proofs.Passed.{room_some, room_short, end_short, end_over, end_fills, end_open}
 use Rattle.reader.proofs.parts.fields_end.Goals as goal
-use Rattle.reader.proofs.parts.fields_end.Goals.{else-ends-there-via-then-ends-there+else-size-reader, else-ends-there-via-else-ends-there}
+use Rattle.reader.proofs.parts.fields_end.Goals.{else-ends_there-via-then-ends_there+else-size-reader, else-ends_there-via-else-ends_there}
 
 pub returns-in-default : goal.returns-in-default
 returns-in-default c =
@@ -21,7 +21,7 @@ returns-then-size-reader c =
     let from = c.args.reader.now.at in
     let to = c.args.reader.now.end in
     let w = room_some bs k from to c.in-Some.size c.in-Some.ensures in
-    end_over bs k from to (omega arith) (ap ends_there (sym c.layout-of.ensures) ∙ sym c.if-ends-there.ensures) (λ e. c.if-size-reader.true (omega arith))
+    end_over bs k from to (omega arith) (ap ends_there (sym c.layout_of.ensures) ∙ sym c.if-ends_there.ensures) (λ e. c.if-size-reader.true (omega arith))
 
 pub returns : goal.returns
 returns c =
@@ -31,7 +31,7 @@ returns c =
     let to = c.args.reader.now.end in
     let w = room_some bs k from to c.in-Some.size c.in-Some.ensures in
     ap (λ (n : ℕ). Some (from + n)) w.0
-    ∙ elim c.else-ends-there.branch [
-      | else-ends-there-via-then-ends-there+else-size-reader w' ↦ end_fills bs k from to (omega arith) (omega (arith, w'.if-size-reader.false))
-      | else-ends-there-via-else-ends-there w' ↦ end_open bs k from to (omega arith) (ap ends_there (sym c.layout-of.ensures) ∙ sym w'.if-ends-there.ensures)
+    ∙ elim c.else-ends_there.branch [
+      | else-ends_there-via-then-ends_there+else-size-reader w' ↦ end_fills bs k from to (omega arith) (omega (arith, w'.if-size-reader.false))
+      | else-ends_there-via-else-ends_there w' ↦ end_open bs k from to (omega arith) (ap ends_there (sym c.layout-of.ensures) ∙ sym w'.if-ends-there.ensures)
     ]

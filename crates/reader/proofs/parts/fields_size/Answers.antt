@@ -6,7 +6,7 @@ use Rattle.reader.proofs.parts.fields_size.Goals as goal
 pub returns-then-room-from : goal.returns-then-room-from
 returns-then-room-from c =
     let l = least_over c.args.bytes.now c.args.kind c.args.reader.now.at in
-    let e = ap (λ (x : Layout). x.fixed) c.layout-of.ensures in
+    let e = ap (λ (x : Layout). x.fixed) c.layout_of.ensures in
     room_none c.args.bytes.now c.args.kind c.args.reader.now.at c.args.reader.now.end (omega arith)
 
 pub returns-then-room-size : goal.returns-then-room-size
@@ -14,4 +14,4 @@ returns-then-room-size c = room_none c.args.bytes.now c.args.kind c.args.reader.
 
 pub returns-else-room-size : goal.returns-else-room-size
 returns-else-room-size c =
-    room_enough c.args.bytes.now c.args.kind c.args.reader.now.at c.args.reader.now.end c.least-at-size.result c.least-at-size.ensures (omega arith)
+    room_enough c.args.bytes.now c.args.kind c.args.reader.now.at c.args.reader.now.end c.least_at-size.result c.least_at-size.ensures (omega arith)

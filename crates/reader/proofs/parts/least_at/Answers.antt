@@ -7,7 +7,7 @@ use Rattle.reader.proofs.parts.least_at.Goals as goal
 
 pub bounds-bytes-at : goal.bounds-bytes-at
 bounds-bytes-at c =
-    let t = ap (λ (x : Layout). is_text x.fields) (sym c.layout-of-layout.ensures) ∙ sym c.if-is-text.ensures in
+    let t = ap (λ (x : Layout). is_text x.fields) (sym c.layout_of-layout.ensures) ∙ sym c.if-is_text.ensures in
     let f = text_fixed c.args.bytes.now c.args.kind t in
     omega arith
 

@@ -28,8 +28,8 @@ returns c =
     let k = c.args.kind in
     let from = c.args.reader.now.at in
     let to = c.args.reader.now.end in
-    let n = c.numbers-told.ensures ∙ ap (λ (l : Layout). numbers_at l.fields bs from) c.layout-of.ensures in
-    let v = c.judge.ensures ∙ ap₂ (λ (x : Option ℕ) (b : Bool). judged c.args.level c.args.place x b) c.fields-end-end.ensures c.is-some.ensures
+    let n = c.numbers-told.ensures ∙ ap (λ (l : Layout). numbers_at l.fields bs from) c.layout_of.ensures in
+    let v = c.judge.ensures ∙ ap₂ (λ (x : Option ℕ) (b : Bool). judged c.args.level c.args.place x b) c.fields_end-end.ensures c.is_some.ensures
     ∙ judged_is bs k from to c.args.level c.args.place c.requires.within c.numbers-told.result n in
     let w = fields_inside bs k from to c.args.level c.args.place c.in-ok-inside.inside (sym v ∙ c.in-ok-inside.was) in
     record {

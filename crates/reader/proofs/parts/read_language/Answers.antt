@@ -5,7 +5,7 @@ use Rattle.grammar.specs.Offsets.{ends}
 use Rattle.grammar.specs.Checks.{tail_of}
 use Rattle.grammar.proofs.Steps.{tail_done, tail_past, tail_other, tail_second, tail_size, tail_language}
 use Rattle.reader.proofs.parts.read_language.Goals as goal
-use Rattle.reader.proofs.parts.read_language.Goals.{then-bytes-place-eq-LANGUAGE+else-is-some+else-stop-reader-ne1, else-bytes-place-eq-LANGUAGE}
+use Rattle.reader.proofs.parts.read_language.Goals.{then-bytes-place-eq-LANGUAGE+else-is_some+else-stop-reader-ne1, else-bytes-place-eq-LANGUAGE}
 
 heard_some : (l : Option ℕ) → heard l ≡ is_some l
 heard_some None = refl
@@ -36,11 +36,11 @@ returns-then-is-some c =
 pub returns-then-stop-reader-ne1 : goal.returns-then-stop-reader-ne1
 returns-then-stop-reader-ne1 c =
     let i = c.loop-reader.invariant in
-    let q = sym c.header.ensures.value ∙ c.in-ok-stop.was in
-    let m = c.in-ok-stop.ensures.moved in
+    let q = sym c.header.ensures.value ∙ c.in_ok-stop.was in
+    let m = c.in_ok-stop.ensures.moved in
     record {
       value = sym (i.2 ∙ tail_size c.args.bytes.now c.args.level _ _ c.loop-reader.language (omega arith) (omega arith) _ q
-          c.if-bytes-place-eq-LANGUAGE.true (heard_some c.loop-reader.language ∙ sym c.if-is-some.ensures) (omega arith));
+          c.if-bytes-place-eq-LANGUAGE.true (heard_some c.loop-reader.language ∙ sym c.if-is_some.ensures) (omega arith));
       edge = search rules;
       moved = tt;
     }
@@ -48,22 +48,22 @@ returns-then-stop-reader-ne1 c =
 pub loop-reader-preserved : goal.loop-reader-preserved
 loop-reader-preserved c =
     let i = c.loop-reader.invariant in
-    let q = sym c.header.ensures.value ∙ c.in-ok-stop.was in
-    let m = c.in-ok-stop.ensures.moved in
+    let q = sym c.header.ensures.value ∙ c.in_ok-stop.was in
+    let m = c.in_ok-stop.ensures.moved in
     let bs = c.args.bytes.now in
     let e = c.header.ensures.edge in (
       omega arith,
       omega arith,
       (elim c.if-bytes-place-eq-LANGUAGE.branch [
-        | then-bytes-place-eq-LANGUAGE+else-is-some+else-stop-reader-ne1 w ↦
+        | then-bytes-place-eq-LANGUAGE+else-is_some+else-stop-reader-ne1 w ↦
             i.2 ∙ tail_language bs c.args.level _ _ c.loop-reader.language (omega arith) (omega arith) _ q
-            w.if-bytes-place-eq-LANGUAGE.true (heard_some c.loop-reader.language ∙ sym w.if-is-some.ensures) (omega arith)
-            ∙ ap (λ (x : Option ℕ). tail_of bs c.args.level x c.in-ok-stop.stop c.loop-reader.reader.end) (sym w.language-is)
-            ∙ ap (λ (x : ℕ). tail_of bs c.args.level c.if-bytes-place-eq-LANGUAGE.language c.in-ok-stop.stop x) (sym e)
+            w.if-bytes-place-eq-LANGUAGE.true (heard_some c.loop-reader.language ∙ sym w.if-is_some.ensures) (omega arith)
+            ∙ ap (λ (x : Option ℕ). tail_of bs c.args.level x c.in_ok-stop.stop c.loop-reader.reader.end) (sym w.language-is)
+            ∙ ap (λ (x : ℕ). tail_of bs c.args.level c.if-bytes-place-eq-LANGUAGE.language c.in_ok-stop.stop x) (sym e)
         | else-bytes-place-eq-LANGUAGE w ↦
             i.2 ∙ tail_other bs c.args.level _ _ c.loop-reader.language (omega arith) (omega arith) _ q w.if-bytes-place-eq-LANGUAGE.false
-            ∙ ap (λ (x : Option ℕ). tail_of bs c.args.level x c.in-ok-stop.stop c.loop-reader.reader.end) (sym w.language-is)
-            ∙ ap (λ (x : ℕ). tail_of bs c.args.level c.if-bytes-place-eq-LANGUAGE.language c.in-ok-stop.stop x) (sym e)
+            ∙ ap (λ (x : Option ℕ). tail_of bs c.args.level x c.in_ok-stop.stop c.loop-reader.reader.end) (sym w.language-is)
+            ∙ ap (λ (x : ℕ). tail_of bs c.args.level c.if-bytes-place-eq-LANGUAGE.language c.in_ok-stop.stop x) (sym e)
       ]),
     )
 

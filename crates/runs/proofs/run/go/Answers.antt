@@ -43,5 +43,5 @@ returns c =
     let n : l.i ≡ length c.args.calls.now = omega arith in
     record {
       ran = all_run (size_of c.args.draft) c.args.calls.now l.i c.args.answers.now l.answers c.args.out.now l.out l.draft l.live n l.invariant.1 l.invariant.2 l.invariant.0;
-      sized = l.invariant.0.size-is;
+      sized = l.invariant.0.size_is;
     }

@@ -45,7 +45,7 @@ put-front-requires g c =
     record {
       there = c.requires.there;
       good = h.good;
-      room = omega (arith, h.size, h.front-size c.counted-parts-held.result, c.requires.room, c.put-header-from.ensures.next);
+      room = omega (arith, h.size, h.front_size c.counted-parts-held.result, c.requires.room, c.put-header-from.ensures.next);
     }
 
 pub overflow-add-result : goal.overflow-add-result

@@ -1,5 +1,5 @@
 use Rattle.std.proofs.Common.{◌<◌, ◌≤◌, arith}
-use borrow.Author.Tests.{not_true, not-false}
+use borrow.Author.Tests.{not-true, not-false}
 use Rattle.sheet.proofs.Judges.{by_place, by_nodes, by_fit, by_many, by_cost, by_none}
 use Rattle.sheet.proofs.judge.judge_row.Goals as goal
 
@@ -13,7 +13,7 @@ returns-then-is-ninth c =
 pub returns-then-not-asked : goal.returns-then-not-asked
 returns-then-not-asked c =
     by_fit c.args.space c.args.opened.now c.args.asked c.if-not-is-placed.ensures c.if-is-ninth.ensures
-    (not_true c.args.asked.fit c.if-not-asked.true)
+    (not-true c.args.asked.fit c.if-not-asked.true)
 
 pub returns-then-rows-from : goal.returns-then-rows-from
 returns-then-rows-from c =

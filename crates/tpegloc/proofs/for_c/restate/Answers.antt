@@ -1,5 +1,5 @@
 use Rattle.std.proofs.Common.{◌≡◌, ℕ, ◌+◌, List, sym, ap, ◌∙◌, subst}
-use Rattle.air.specs.Whole.{rows_of}
+use Rattle.reader.specs.Whole.{rows_of}
 use Rattle.tpegloc.specs.Coded.{Restates}
 use Rattle.tpegloc.proofs.Handed.{restated_ok, restated_err, restates_ok, restates_err}
 use Rattle.tpegloc.proofs.for_c.restate.Goals as goal

@@ -1,7 +1,7 @@
 use Rattle.std.proofs.Common.{◌≡◌, length, Ok, Err, sym, refl, ap, ◌∙◌}
 use Rattle.std.proofs.lemmas.Result.{err_from_is_err_and}
 use Rattle.grammar.proofs.Complete.{reading_complete}
-use Rattle.air.specs.Whole.{rows_of}
+use Rattle.reader.specs.Whole.{rows_of}
 use Rattle.sheet.specs.Held.{held}
 use Rattle.sheet.proofs.Judges.{judged_load}
 use Rattle.sheet.proofs.kept.Draft.load.Goals as goal

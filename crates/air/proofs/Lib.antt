@@ -1,2 +1,0 @@
-pub mod Stacked
-pub mod Sighted

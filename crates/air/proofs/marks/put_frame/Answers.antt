@@ -1,5 +1,0 @@
-use Rattle.air.proofs.Stacked.{stacked}
-use Rattle.air.proofs.marks.put_frame.Goals as goal
-
-pub returns : goal.returns
-returns c = stacked c.args.frames.now c.args.frame c.args.held c.requires

@@ -1,0 +1,48 @@
+-- What is found at a mark of a container.
+use Rattle.std.specs.Prelude.{◌≡◌, ℕ, suc, ◌+◌, ◌-◌, ◌<◌, ◌≤◌, false, List, [], ◌∷◌, length, Some, None, Option, slice_index, slice_index_or}
+use Rattle.grammar.specs.Format.{layout}
+use Rattle.grammar.specs.Grammar.{Row as Told}
+use Rattle.grammar.specs.Offsets as O
+use Rattle.grammar.specs.Walk.{row_at}
+use Rattle.reader.specs.declared.sights.Sight.{Sight}
+use Rattle.reader.specs.declared.sights.Step.{Step}
+use Rattle.reader.specs.declared.sights.Step.TheVariants.{Row, Pass, End}
+use Rattle.reader.specs.declared.marks.Frame.{Frame}
+use Rattle.reader.specs.declared.marks.Mark.{Mark}
+use Rattle.reader.specs.declared.standings.Component.{Component}
+use Rattle.reader.specs.declared.standings.Standing.TheVariants.{Known}
+use Rattle.reader.specs.Marks.{rows_at, left, blank_frame}
+use Rattle.reader.specs.Stands.{stands_at}
+
+-- the innermost holder of a mark, which ends within the bytes and past the mark's place
+abbrev pub OpenAt : List ℕ → Mark → Frame → Type 0
+OpenAt bs m f = (0 < m.held) × (f ≡ slice_index_or m.frames (m.held - 1) blank_frame) × (f.end ≤ length bs) × (m.at < f.end)
+
+-- a known component stands there
+abbrev pub StandingAt : List ℕ → Mark → Frame → Component → Type 0
+StandingAt bs m f c = OpenAt bs m f × (Known c ≡ stands_at bs f.spot m.at f.end)
+
+-- the row of a component that was found
+abbrev pub told_row : List ℕ → Sight → Told
+told_row bs s = row_at bs (slice_index bs 0) s.depth s.kind s.from s.stop
+
+-- a component's fields are within it, and it is within the bytes
+pub record Within (bs : List ℕ) (s : Sight) : Type 0 where
+  pub fields : s.from + O.least bs (layout s.kind).fields s.from ≤ s.stop
+  pub within : s.stop ≤ length bs
+  pub globe : O.off_globe bs (layout s.kind).fields s.from ≡ false
+
+-- a row stands at the mark, and the rest are the rows of the next mark
+abbrev pub Seen : List ℕ → Mark → Sight → Type 0
+Seen bs m s = (rows_at bs m ≡ told_row bs s ∷ rows_at bs s.next) × Within bs s
+
+-- a row, or a mark with the same rows and less left, or no row
+abbrev pub Stepped : List ℕ → Mark → Step → Type 0
+Stepped bs m (Row s) = Seen bs m s
+Stepped bs m (Pass n) = (rows_at bs n ≡ rows_at bs m) × (left bs n < left bs m)
+Stepped bs m End = rows_at bs m ≡ []
+
+-- the first row from the mark on, if there is one
+abbrev pub Sighted : List ℕ → Mark → Option Sight → Type 0
+Sighted bs m (Some s) = Seen bs m s
+Sighted bs m None = rows_at bs m ≡ []
