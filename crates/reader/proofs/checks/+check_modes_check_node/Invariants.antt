@@ -4,25 +4,25 @@ use Rattle.grammar.specs.Checks.{component_of, parts_of, nodes_of, plus}
 use Rattle.reader.proofs.checks.+check_modes_check_node.Given as goal
 
 -- the bytes that are left of the component
-abbrev pub decreases-check-node : goal.decreases-check_node
-decreases-check-node l = l.part.stop - l.reader.now.at
+abbrev pub decreases-check_node : goal.decreases-check_node
+decreases-check_node l = l.part.stop - l.reader.now.at
 
-abbrev pub decreases-check-modes : goal.decreases-check_modes
-decreases-check-modes l = l.part.stop - l.reader.now.at
+abbrev pub decreases-check_modes : goal.decreases-check_modes
+decreases-check_modes l = l.part.stop - l.reader.now.at
 
-abbrev pub invariant-check-modes-loop : goal.invariant-check_modes-loop
-invariant-check-modes-loop l =
+abbrev pub invariant-check_modes-loop : goal.invariant-check_modes-loop
+invariant-check_modes-loop l =
     (l.inner.reader.now.at ≤ l.inner.reader.now.end) × (l.inner.reader.now.end ≡ l.initial.inner.reader.now.end) × (l.inner.edge ≡ l.initial.inner.edge)
     × (l.initial.inner.reader.now.at + l.rows ≤ l.inner.reader.now.at + 1)
     × (plus 1 (nodes_of l.bytes l.count (l.level + 1) l.nodes l.part.place l.initial.inner.reader.now.at l.initial.inner.reader.now.end)
     ≡ plus l.rows (nodes_of l.bytes (l.count - l.counter) (l.level + 1) l.nodes l.part.place l.inner.reader.now.at l.inner.reader.now.end))
 
-abbrev pub invariant-check-node-loop-inner : goal.invariant-check_node-loop-inner
-invariant-check-node-loop-inner l =
+abbrev pub invariant-check_node-loop-inner : goal.invariant-check_node-loop-inner
+invariant-check_node-loop-inner l =
     (l.inner.reader.now.at ≤ l.inner.reader.now.end) × (l.inner.reader.now.end ≡ l.initial.inner.reader.now.end) × (l.inner.edge ≡ l.initial.inner.edge)
     × (l.initial.inner.reader.now.at + l.rows ≤ l.inner.reader.now.at + 1)
     × (plus 1 (parts_of l.bytes Node (l.level + 1) (l.nodes + 1) l.initial.inner.reader.now.at l.initial.inner.reader.now.end)
     ≡ plus l.rows (parts_of l.bytes Node (l.level + 1) (l.nodes + 1) l.inner.reader.now.at l.inner.reader.now.end))
 
-abbrev pub decreases-check-node-loop-inner : goal.decreases-check_node-loop-inner
-decreases-check-node-loop-inner l = l.inner.reader.now.end - l.inner.reader.now.at
+abbrev pub decreases-check_node-loop-inner : goal.decreases-check_node-loop-inner
+decreases-check_node-loop-inner l = l.inner.reader.now.end - l.inner.reader.now.at

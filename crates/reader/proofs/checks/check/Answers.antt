@@ -10,9 +10,9 @@ fewer (Err f) a b h k = tt
 
 pub returns : goal.returns
 returns c =
-    let v = c.check-tops.ensures.value ∙ sym (reading_tops c.args.bytes.now (omega arith) (omega arith)) in
+    let v = c.check_tops.ensures.value ∙ sym (reading_tops c.args.bytes.now (omega arith) (omega arith)) in
     record {
       value = v;
-      legal = told_exactly c.args.bytes.now (λ i. let f = c.type-inv.bytes i in omega arith) c.check-tops.result v;
-      few = fewer c.check-tops.result _ _ (omega arith) c.check-tops.ensures.few;
+      legal = told_exactly c.args.bytes.now (λ i. let f = c.type_inv.bytes i in omega arith) c.check_tops.result v;
+      few = fewer c.check_tops.result _ _ (omega arith) c.check_tops.ensures.few;
     }

@@ -5,15 +5,15 @@ use Rattle.grammar.specs.Checks.{data_of}
 use Rattle.grammar.proofs.Steps.{closed_leafy, flat_fault, leaf_ok, data_closed}
 use Rattle.reader.proofs.checks.check_leaf.Goals as goal
 
-pub returns-in-err-pass-data : goal.returns-in-err-pass-data
-returns-in-err-pass-data c =
-    let p = err_from_is_err_and c.from-residual.result c.from-residual.ensures.1 in
+pub returns-in_err-pass_data : goal.returns-in_err-pass_data
+returns-in_err-pass_data c =
+    let p = err_from_is_err_and c.from_residual.result c.from_residual.ensures.1 in
     let bs = c.args.bytes.now in
     let k = c.args.part.kind in
     let to = c.args.part.stop in
     let from = c.args.reader.now.at in
     let q = ap₂ (λ (x y : ℕ). data_of bs (layout k) c.args.level c.args.part.place x y) (sym c.narrow-inner.ensures.at) (sym c.narrow-inner.ensures.end)
-    ∙ sym c.pass-data.ensures.value ∙ c.in-err-pass-data.was in
+    ∙ sym c.pass_data.ensures.value ∙ c.in_err-pass_data.was in
     record {
       value = λ n few. p.1 ∙ ap Err p.2 ∙ sym (flat_fault bs k c.args.level n c.args.part.place from to (omega arith) (omega arith) (omega arith) (omega arith)
           (closed_leafy (layout k).inside c.requires.leaf.1) few _ q);

@@ -14,24 +14,24 @@ use Rattle.reader.proofs.checks.check_leaves.Goals as goal
 open_spot : (s : Spot) → leafy s ≡ true → (at end : ℕ) → at < end → (closed s ≡ true → at ≡ end) → (counted s ≡ false) × (sealed s ≡ false)
 open_spot s y at end h k = leafy_open s y (by_cases (closed s) (λ q. let e = k q in absurd (omega arith)) (λ q. q))
 
-pub returns-in-err-part : goal.returns-in-err-part
-returns-in-err-part c =
-    let p = err_from_is_err_and c.from-residual.result c.from-residual.ensures.1 in
+pub returns-in_err-part : goal.returns-in_err-part
+returns-in_err-part c =
+    let p = err_from_is_err_and c.from_residual.result c.from_residual.ensures.1 in
     let i = c.loop-reader.invariant in
     let o = open_spot c.args.spot c.requires.leaves c.loop-reader.reader.at c.loop-reader.reader.end (omega arith) i.3 in
     record {
       value = λ n few. p.1 ∙ ap Err p.2
-          ∙ turn_past c.args.bytes.now c.args.spot c.args.level n _ _ _ _ (i.4 n few) (omega arith) (omega arith) o _ c.in-err-part.ensures.found;
+          ∙ turn_past c.args.bytes.now c.args.spot c.args.level n _ _ _ _ (i.4 n few) (omega arith) (omega arith) o _ c.in_err-part.ensures.found;
       edge = search rules;
       moved = rw p.1 tt;
     }
 
-pub check-leaf-requires : goal.check-leaf-requires
-check-leaf-requires c =
-    let f = rw c.in-Some.is at c.in-ok-part.ensures.found in
+pub check_leaf-requires : goal.check_leaf-requires
+check_leaf-requires c =
+    let f = rw c.in-Some.is at c.in_ok-part.ensures.found in
     let k : kind_at c.args.spot (get_or c.args.bytes.now c.loop-reader.reader.at 0) ≡ c.in-Some.part.kind = f.1 in
     let z : 0 < c.in-Some.part.kind = f.2 in
-    let e = c.open-part.ensures.edge in
+    let e = c.open_part.ensures.edge in
     record {
       order = (omega (arith, f.5), omega (arith, f.6));
       within = omega arith;
@@ -40,16 +40,16 @@ check-leaf-requires c =
       leaf = (z, subst (λ (x : ℕ). closed (layout x).inside ≡ true) k (leafy_closed c.args.spot (get_or c.args.bytes.now c.loop-reader.reader.at 0) c.requires.leaves (omega arith)));
     }
 
-pub returns-in-err-rows : goal.returns-in-err-rows
-returns-in-err-rows c =
-    let p = err_from_is_err_and c.from-residual-in-err-rows.result c.from-residual-in-err-rows.ensures.1 in
+pub returns-in_err-rows : goal.returns-in_err-rows
+returns-in_err-rows c =
+    let p = err_from_is_err_and c.from_residual-in_err-rows.result c.from_residual-in_err-rows.ensures.1 in
     let i = c.loop-reader.invariant in
     let o = open_spot c.args.spot c.requires.leaves c.loop-reader.reader.at c.loop-reader.reader.end (omega arith) i.3 in
-    let f = rw c.in-Some.is at c.in-ok-part.ensures.found in
+    let f = rw c.in-Some.is at c.in_ok-part.ensures.found in
     record {
       value = λ n few. p.1 ∙ ap Err p.2
-          ∙ turn_fault c.args.bytes.now c.args.spot c.args.level n _ _ _ _ (i.4 n few) (omega arith) (omega arith) o c.in-Some.part c.open-part.new.reader f _
-          (sym (c.check-leaf.ensures.value n few) ∙ c.in-err-rows.was);
+          ∙ turn_fault c.args.bytes.now c.args.spot c.args.level n _ _ _ _ (i.4 n few) (omega arith) (omega arith) o c.in-Some.part c.open_part.new.reader f _
+          (sym (c.check_leaf.ensures.value n few) ∙ c.in_err-rows.was);
       edge = search rules;
       moved = rw p.1 tt;
     }
@@ -61,14 +61,14 @@ loop-reader-preserved-in-Some c =
     let f = rw c.in-Some.is at c.in_ok-part.ensures.found in
     let m = c.in_ok-rows.ensures.moved in
     let e = c.open_part.ensures.edge in
-    let e₂ = c.check-leaf.ensures.edge in (
+    let e₂ = c.check_leaf.ensures.edge in (
       omega (arith, f.6),
       omega arith,
       omega (arith, f.3),
       (λ y. let z = i.3 y in absurd (omega arith)),
       λ n few.
           turn_ok c.args.bytes.now c.args.spot c.args.level n _ _ _ _ (i.4 n few) (omega arith) (omega arith) o c.in-Some.part c.open_part.new.reader f _ _ _
-          (sym (c.check-leaf.ensures.value n few) ∙ c.in_ok-rows.was) m.0 (omega arith),
+          (sym (c.check_leaf.ensures.value n few) ∙ c.in_ok-rows.was) m.0 (omega arith),
     )
 
 pub loop-reader-preserved : goal.loop-reader-preserved

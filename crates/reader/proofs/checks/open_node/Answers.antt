@@ -14,13 +14,13 @@ returns-then-reader c =
       found = λ m n some. nodes_few c.args.bytes.now c.args.level n c.args.place _ _ m some (omega arith);
     }
 
-pub returns-in-err-part : goal.returns-in-err-part
-returns-in-err-part c =
-    let p = err_from_is_err_and c.from-residual.result c.from-residual.ensures.1 in
-    let q = c.in-err-part.ensures.found in
+pub returns-in_err-part : goal.returns-in_err-part
+returns-in_err-part c =
+    let p = err_from_is_err_and c.from_residual.result c.from_residual.ensures.1 in
+    let q = c.in_err-part.ensures.found in
     record {
       edge = search rules;
-      found = subst (λ (r : Result Part ReadFault). OpenedNode c.args.bytes.now Associated c.args.level c.args.place c.args.reader.now.at c.args.reader.now.end r c.open-part.new.reader)
+      found = subst (λ (r : Result Part ReadFault). OpenedNode c.args.bytes.now Associated c.args.level c.args.place c.args.reader.now.at c.args.reader.now.end r c.open_part.new.reader)
           (sym (p.1 ∙ ap Err p.2))
           (λ m n some. nodes_past c.args.bytes.now c.args.level n c.args.place _ _ m some (omega arith) (omega arith) _ q);
     }

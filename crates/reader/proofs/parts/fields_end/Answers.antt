@@ -6,13 +6,13 @@ use Rattle.reader.proofs.Passed.{room_some, room_short, end_short, end_over, end
 use Rattle.reader.proofs.parts.fields_end.Goals as goal
 use Rattle.reader.proofs.parts.fields_end.Goals.{else-ends_there-via-then-ends_there+else-size-reader, else-ends_there-via-else-ends_there}
 
-pub returns-in-default : goal.returns-in-default
-returns-in-default c =
+pub returns-in_default : goal.returns-in_default
+returns-in_default c =
     let bs = c.args.bytes.now in
     let k = c.args.kind in
     let from = c.args.reader.now.at in
     let to = c.args.reader.now.end in
-    end_short bs k from to (room_short bs k from to c.in-default.ensures)
+    end_short bs k from to (room_short bs k from to c.in_default.ensures)
 
 pub returns-then-size-reader : goal.returns-then-size-reader
 returns-then-size-reader c =
@@ -33,5 +33,5 @@ returns c =
     ap (λ (n : ℕ). Some (from + n)) w.0
     ∙ elim c.else-ends_there.branch [
       | else-ends_there-via-then-ends_there+else-size-reader w' ↦ end_fills bs k from to (omega arith) (omega (arith, w'.if-size-reader.false))
-      | else-ends_there-via-else-ends_there w' ↦ end_open bs k from to (omega arith) (ap ends_there (sym c.layout-of.ensures) ∙ sym w'.if-ends-there.ensures)
+      | else-ends_there-via-else-ends_there w' ↦ end_open bs k from to (omega arith) (ap ends_there (sym c.layout_of.ensures) ∙ sym w'.if-ends_there.ensures)
     ]

@@ -11,16 +11,16 @@ bounds-bytes-at c =
     let f = text_fixed c.args.bytes.now c.args.kind t in
     omega arith
 
-pub returns-then-is-text : goal.returns-then-is-text
-returns-then-is-text c =
-    let e = ap (λ (x : Layout). x.fixed) c.layout-of-layout.ensures in
-    let t = ap (λ (x : Layout). is_text x.fields) (sym c.layout-of-layout.ensures) ∙ sym c.if-is-text.ensures in
+pub returns-then-is_text : goal.returns-then-is_text
+returns-then-is_text c =
+    let e = ap (λ (x : Layout). x.fixed) c.layout_of-layout.ensures in
+    let t = ap (λ (x : Layout). is_text x.fields) (sym c.layout_of-layout.ensures) ∙ sym c.if-is_text.ensures in
     let l = least_text c.args.bytes.now c.args.kind c.args.at t in
     omega arith
 
-pub returns-else-is-text : goal.returns-else-is-text
-returns-else-is-text c =
-    let e = ap (λ (x : Layout). x.fixed) c.layout-of-layout.ensures in
-    let t = ap (λ (x : Layout). is_text x.fields) (sym c.layout-of-layout.ensures) ∙ sym c.if-is-text.ensures in
+pub returns-else-is_text : goal.returns-else-is_text
+returns-else-is_text c =
+    let e = ap (λ (x : Layout). x.fixed) c.layout_of-layout.ensures in
+    let t = ap (λ (x : Layout). is_text x.fields) (sym c.layout_of-layout.ensures) ∙ sym c.if-is_text.ensures in
     let l = least_fixed c.args.bytes.now c.args.kind c.args.at t in
     omega arith

@@ -3,11 +3,11 @@ use Rattle.grammar.specs.Offsets.{value}
 use Rattle.reader.proofs.Digits.{digit_more, few, wider}
 use Rattle.reader.proofs.parts.number_at.Goals as goal
 
-pub overflow-mul-n : goal.overflow-mul-n
-overflow-mul-n c = omega (arith, few c.loop-i.i c.loop-i.n (omega arith) c.loop-i.invariant.0)
+pub overflow_mul-n : goal.overflow_mul-n
+overflow_mul-n c = omega (arith, few c.loop-i.i c.loop-i.n (omega arith) c.loop-i.invariant.0)
 
-pub overflow-add-n : goal.overflow-add-n
-overflow-add-n c = omega (arith, few c.loop-i.i c.loop-i.n (omega arith) c.loop-i.invariant.0)
+pub overflow_add-n : goal.overflow_add-n
+overflow_add-n c = omega (arith, few c.loop-i.i c.loop-i.n (omega arith) c.loop-i.invariant.0)
 
 pub loop-i-preserved : goal.loop-i-preserved
 loop-i-preserved c =

@@ -6,18 +6,18 @@ use Rattle.reader.specs.Fielded.{judged}
 use Rattle.reader.proofs.Passed.{judged_is, fields_inside}
 use Rattle.reader.proofs.parts.pass_fields.Goals as goal
 
-pub returns-in-err-inside : goal.returns-in-err-inside
-returns-in-err-inside c =
+pub returns-in_err-inside : goal.returns-in_err-inside
+returns-in_err-inside c =
     let bs = c.args.bytes.now in
     let k = c.args.kind in
     let from = c.args.reader.now.at in
     let to = c.args.reader.now.end in
-    let p = err_from_is_err_and c.from-residual.result c.from-residual.ensures.1 in
-    let n = c.numbers-told.ensures ∙ ap (λ (l : Layout). numbers_at l.fields bs from) c.layout-of.ensures in
-    let v = c.judge.ensures ∙ ap₂ (λ (x : Option ℕ) (b : Bool). judged c.args.level c.args.place x b) c.fields-end-end.ensures c.is-some.ensures
+    let p = err_from_is_err_and c.from_residual.result c.from_residual.ensures.1 in
+    let n = c.numbers-told.ensures ∙ ap (λ (l : Layout). numbers_at l.fields bs from) c.layout_of.ensures in
+    let v = c.judge.ensures ∙ ap₂ (λ (x : Option ℕ) (b : Bool). judged c.args.level c.args.place x b) c.fields_end-end.ensures c.is_some.ensures
     ∙ judged_is bs k from to c.args.level c.args.place c.requires.within c.numbers-told.result n in
     record {
-      value = p.1 ∙ ap Err p.2 ∙ sym c.in-err-inside.was ∙ v;
+      value = p.1 ∙ ap Err p.2 ∙ sym c.in_err-inside.was ∙ v;
       edge = search rules;
       moved = rw p.1 tt;
     }
@@ -31,9 +31,9 @@ returns c =
     let n = c.numbers-told.ensures ∙ ap (λ (l : Layout). numbers_at l.fields bs from) c.layout_of.ensures in
     let v = c.judge.ensures ∙ ap₂ (λ (x : Option ℕ) (b : Bool). judged c.args.level c.args.place x b) c.fields_end-end.ensures c.is_some.ensures
     ∙ judged_is bs k from to c.args.level c.args.place c.requires.within c.numbers-told.result n in
-    let w = fields_inside bs k from to c.args.level c.args.place c.in-ok-inside.inside (sym v ∙ c.in-ok-inside.was) in
+    let w = fields_inside bs k from to c.args.level c.args.place c.in_ok-inside.inside (sym v ∙ c.in_ok-inside.was) in
     record {
-      value = sym c.in-ok-inside.was ∙ v;
+      value = sym c.in_ok-inside.was ∙ v;
       edge = search rules;
       moved = (search rules, w.0, w.1);
     }

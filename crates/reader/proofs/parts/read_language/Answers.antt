@@ -11,24 +11,24 @@ heard_some : (l : Option ℕ) → heard l ≡ is_some l
 heard_some None = refl
 heard_some (Some x) = refl
 
-pub returns-in-err-stop : goal.returns-in-err-stop
-returns-in-err-stop c =
-    let p = err_from_is_err_and c.from-residual.result c.from-residual.ensures.1 in
+pub returns-in_err-stop : goal.returns-in_err-stop
+returns-in_err-stop c =
+    let p = err_from_is_err_and c.from_residual.result c.from_residual.ensures.1 in
     let i = c.loop-reader.invariant in
-    let q = sym c.header.ensures.value ∙ c.in-err-stop.was in
+    let q = sym c.header.ensures.value ∙ c.in_err-stop.was in
     record {
       value = p.1 ∙ ap Err p.2 ∙ sym (i.2 ∙ tail_past c.args.bytes.now c.args.level _ _ c.loop-reader.language (omega arith) (omega arith) _ q);
       edge = search rules;
       moved = rw p.1 tt;
     }
 
-pub returns-then-is-some : goal.returns-then-is-some
-returns-then-is-some c =
+pub returns-then-is_some : goal.returns-then-is_some
+returns-then-is_some c =
     let i = c.loop-reader.invariant in
-    let q = sym c.header.ensures.value ∙ c.in-ok-stop.was in
+    let q = sym c.header.ensures.value ∙ c.in_ok-stop.was in
     record {
       value = sym (i.2 ∙ tail_second c.args.bytes.now c.args.level _ _ c.loop-reader.language (omega arith) (omega arith) _ q
-          c.if-bytes-place-eq-LANGUAGE.true (heard_some c.loop-reader.language ∙ sym c.if-is-some.ensures));
+          c.if-bytes-place-eq-LANGUAGE.true (heard_some c.loop-reader.language ∙ sym c.if-is_some.ensures));
       edge = search rules;
       moved = tt;
     }

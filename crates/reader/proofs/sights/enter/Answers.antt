@@ -10,28 +10,28 @@ use Rattle.reader.specs.Marks.{rows_at, stack}
 use Rattle.reader.proofs.Sighted.{after, rows_standing, Kept, kept}
 use Rattle.reader.proofs.sights.enter.Goals as goal
 
-pub returns-then-is-closed : goal.returns-then-is-closed
-returns-then-is-closed c =
+pub returns-then-is_closed : goal.returns-then-is_closed
+returns-then-is_closed c =
     let bs = c.args.bytes.now in
     let m = c.args.mark in
     let f = c.args.frame in
     let x = c.args.component in
     let o = c.requires.0 in
     let w = subst (Kept bs m.at) (sym c.requires.1) (kept bs f.spot m.at f.end o.2 o.3) in
-    let s : closed (layout x.kind).inside ≡ true = ap (λ (l : Layout). closed l.inside) (sym c.layout-of-spot.ensures) ∙ sym c.if-is-closed.ensures in (
+    let s : closed (layout x.kind).inside ≡ true = ap (λ (l : Layout). closed l.inside) (sym c.layout_of-spot.ensures) ∙ sym c.if-is_closed.ensures in (
       rows_standing bs m f o.0 o.1 o.2 o.3 ∙ ap (after bs m) (sym c.requires.1) ∙ first_way (closed (layout x.kind).inside) _ _ s refl
           ∙ ap (λ (n : Mark). row_at bs (get_or bs 0 0) (m.held - 1) x.kind x.from x.stop ∷ rows_at bs n) (sym c.moved-next.ensures),
       record { fields = w.0; within = w.1; globe = w.2 },
     )
 
-pub returns-then-from-ge-MOST-HOLDERS : goal.returns-then-from-ge-MOST-HOLDERS
-returns-then-from-ge-MOST-HOLDERS c =
+pub returns-then-from-ge-MOST_HOLDERS : goal.returns-then-from-ge-MOST_HOLDERS
+returns-then-from-ge-MOST_HOLDERS c =
     let bs = c.args.bytes.now in
     let m = c.args.mark in
     let f = c.args.frame in
     let x = c.args.component in
     let o = c.requires.0 in
-    let s : closed (layout x.kind).inside ≡ false = ap (λ (l : Layout). closed l.inside) (sym c.layout-of-spot.ensures) ∙ sym c.if-is-closed.ensures in
+    let s : closed (layout x.kind).inside ≡ false = ap (λ (l : Layout). closed l.inside) (sym c.layout_of-spot.ensures) ∙ sym c.if-is_closed.ensures in
     rows_standing bs m f o.0 o.1 o.2 o.3 ∙ ap (after bs m) (sym c.requires.1)
     ∙ other_way (closed (layout x.kind).inside) _ _ s (first_way (leb 17 m.held) _ _ (le-leb 17 m.held (omega arith)) refl)
 

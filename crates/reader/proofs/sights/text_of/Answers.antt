@@ -16,5 +16,5 @@ returns c =
     let i : s.from + 1 ≡ suc s.from = omega arith in
     record {
       text = ap₂ (λ (n i : ℕ). take n (drop i bs)) n i ∙ sym (ap (λ (x : Told). x.text) (text_told bs s t c.requires));
-      bytes = bytes_take (s.from + 1 + c.from-length.result - (s.from + 1)) (drop (s.from + 1) bs) (bytes_drop (s.from + 1) bs (bytes_each bs (λ i. let f = c.type-inv.bytes i in omega arith)));
+      bytes = bytes_take (s.from + 1 + c.from-length.result - (s.from + 1)) (drop (s.from + 1) bs) (bytes_drop (s.from + 1) bs (bytes_each bs (λ i. let f = c.type_inv.bytes i in omega arith)));
     }

@@ -4,17 +4,17 @@ use Rattle.grammar.specs.Walk.{Stretch, data_from}
 use Rattle.grammar.proofs.Walked.{data_none, data_past, data_here, data_other}
 use Rattle.reader.proofs.standings.find_descriptions.Goals as goal
 
-pub returns-then-is-empty : goal.returns-then-is-empty
-returns-then-is-empty c =
-    let z = eqb-true (length c.args.bytes.now) 0 (sym c.if-is-empty.ensures) in
+pub returns-then-is_empty : goal.returns-then-is_empty
+returns-then-is_empty c =
+    let z = eqb-true (length c.args.bytes.now) 0 (sym c.if-is_empty.ensures) in
     let e = data_none c.args.bytes.now 1 (omega arith) in
     record { start = ap (λ (s : Stretch). s.start) (sym e); end = ap (λ (s : Stretch). s.end) (sym e) }
 
-pub returns-in-default : goal.returns-in-default
-returns-in-default c =
+pub returns-in_default : goal.returns-in_default
+returns-in_default c =
     let i = c.loop-reader.invariant in
     let bs = c.args.bytes.now in
-    let q = ap (ends bs 2 0 c.loop-reader.reader.at) (sym i.1) ∙ sym c.header.ensures.value ∙ c.in-default.is in
+    let q = ap (ends bs 2 0 c.loop-reader.reader.at) (sym i.1) ∙ sym c.header.ensures.value ∙ c.in_default.is in
     let e = i.2 ∙ data_past bs c.loop-reader.reader.at _ (omega arith) q in
     record { start = ap (λ (s : Stretch). s.start) (sym e); end = ap (λ (s : Stretch). s.end) (sym e) }
 

@@ -6,23 +6,23 @@ use Rattle.reader.proofs.Passed.{room_some, room_short, on_globe}
 use Rattle.reader.proofs.Stood.{known_short, known_off, known_on}
 use Rattle.reader.proofs.standings.keep.Goals as goal
 
-pub returns-in-default : goal.returns-in-default
-returns-in-default c =
+pub returns-in_default : goal.returns-in_default
+returns-in_default c =
     let bs = c.args.bytes.now in
     let k = c.args.part.kind in
     let from = c.args.reader.now.at in
-    known_short bs k from c.args.part.stop (room_short bs k from c.args.part.stop c.in-default.ensures)
+    known_short bs k from c.args.part.stop (room_short bs k from c.args.part.stop c.in_default.ensures)
 
-pub returns-then-is-none : goal.returns-then-is-none
-returns-then-is-none c =
+pub returns-then-is_none : goal.returns-then-is_none
+returns-then-is_none c =
     let bs = c.args.bytes.now in
     let k = c.args.part.kind in
     let from = c.args.reader.now.at in
     let to = c.args.part.stop in
     let h = c.in-Some.ensures in
     let w = room_some bs k from to c.in-Some.size h in
-    let n = c.numbers.ensures ∙ ap (λ (l : Layout). numbers_at l.fields bs from) c.layout-of.ensures in
-    known_off bs k from to (omega arith) (on_globe bs k from to (omega arith) c.requires.within c.numbers.result n false c.if-is-none.ensures)
+    let n = c.numbers.ensures ∙ ap (λ (l : Layout). numbers_at l.fields bs from) c.layout_of.ensures in
+    known_off bs k from to (omega arith) (on_globe bs k from to (omega arith) c.requires.within c.numbers.result n false c.if-is_none.ensures)
 
 pub returns : goal.returns
 returns c =

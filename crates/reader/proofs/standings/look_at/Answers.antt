@@ -8,8 +8,8 @@ returns-then-end-bytes c = stand_forged c.args.bytes.now c.args.spot c.args.at c
 pub returns-then-end-at : goal.returns-then-end-at
 returns-then-end-at c = stand_done c.args.bytes.now c.args.spot c.args.at c.args.end (omega arith) (omega arith)
 
-pub returns-in-default : goal.returns-in-default
-returns-in-default c = stand_past c.args.bytes.now c.args.spot c.args.at c.args.end (omega arith) (omega arith) _ c.in-default.ensures.found
+pub returns-in_default : goal.returns-in_default
+returns-in_default c = stand_past c.args.bytes.now c.args.spot c.args.at c.args.end (omega arith) (omega arith) _ c.in_default.ensures.found
 
 pub returns-in-Some : goal.returns-in-Some
 returns-in-Some c =

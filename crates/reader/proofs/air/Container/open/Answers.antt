@@ -10,11 +10,11 @@ use Rattle.reader.specs.declared.air.Container.{Container}
 use Rattle.reader.specs.Whole.{Opens}
 use Rattle.reader.proofs.air.Container.open.Goals as goal
 
-pub returns-in-err-check : goal.returns-in-err-check
-returns-in-err-check c =
-    let p = err_from_is_err_and c.from-residual.result c.from-residual.ensures.1 in
+pub returns-in_err-check : goal.returns-in_err-check
+returns-in_err-check c =
+    let p = err_from_is_err_and c.from_residual.result c.from_residual.ensures.1 in
     let bs = c.args.bytes.now in
-    let e = c.in-err-check.ensures in
+    let e = c.in_err-check.ensures in
     subst (λ (r : Result Container ReadFault). Opens bs r) (sym (p.1 ∙ ap Err p.2)) (fault_read (reading bs) _ e.value, e.legal)
 
 told_is : (bs zs : List ℕ) (start end : ℕ) → zs ≡ bs → start ≡ (data_from bs 1).start → end ≡ (data_from bs 1).end
@@ -26,6 +26,6 @@ told_is bs zs start end p q r =
 pub returns : goal.returns
 returns c =
     let bs = c.args.bytes.now in
-    let e = c.in-ok-check.ensures.legal in
+    let e = c.in_ok-check.ensures.legal in
     let f = c.within.ensures in
     (f.bytes, subst (Tells bs) (told_is bs _ _ _ f.bytes f.start f.end) (walk_told bs e.0 e.1))
