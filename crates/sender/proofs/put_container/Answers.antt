@@ -8,9 +8,9 @@ use Rattle.sender.proofs.put_container.Goals as goal
 pub returns-then-some : goal.returns-then-some
 returns-then-some g c =
     let rows = g.L.Location.whole c.args.l.now in
-    c.put-rows.ensures.wrote
+    c.put_rows.ensures.wrote
     ∙ ap (λ (xs : List ℕ). splice xs 4 (flat c.args.default rows))
-    (c.put-number.ensures
+    (c.put_number.ensures
     ∙ ap (λ (xs : List ℕ). splice xs 2 (big 2 (c.args.size - 4)))
-    (c.put-byte-then-some.ensures ∙ ap (λ (xs : List ℕ). splice xs 1 (1 ∷ [])) c.put-byte.ensures))
+    (c.put_byte-then-some.ensures ∙ ap (λ (xs : List ℕ). splice xs 1 (1 ∷ [])) c.put_byte.ensures))
     ∙ container_bytes c.args.out.now c.args.default c.args.size rows c.requires.sized.0 c.requires.room (sym c.requires.any ∙ c.if-some.true)

@@ -17,5 +17,5 @@ four (p ∷ (q ∷ (r ∷ (s ∷ (t ∷ ls))))) a b c d h ea eb ec ed rows = abs
 
 pub returns : goal.returns
 returns c =
-    four c.args.layers.now c.layer-at.result c.layer-at-2.result c.layer-at-3.result c.layer-at-4.result (omega arith)
-    c.layer-at.ensures c.layer-at-2.ensures c.layer-at-3.ensures c.layer-at-4.ensures
+    four c.args.layers.now c.layer_at.result c.layer_at-2.result c.layer_at-3.result c.layer_at-4.result (omega arith)
+    c.layer_at.ensures c.layer_at-2.ensures c.layer_at-3.ensures c.layer_at-4.ensures

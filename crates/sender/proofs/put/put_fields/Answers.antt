@@ -9,7 +9,7 @@ pub returns : goal.returns
 returns c =
     let out : List ℕ = c.args.out.now in
     let n : ℕ = length out - c.args.at in
-    laid_there out c.lay-fields.new.out (fixed c.args.fields c.args.a c.args.b c.args.held) c.args.at n (omega arith) refl
-    (c.lay-fields.ensures
+    laid_there out c.lay_fields.new.out (fixed c.args.fields c.args.a c.args.b c.args.held) c.args.at n (omega arith) refl
+    (c.lay_fields.ensures
     ∙ ap₂ (λ (x y : ℤ). laid_over (fixed c.args.fields x y c.args.held) (take n (drop c.args.at out)))
     (to_z-of_z w32 c.args.a c.ranges.a) (to_z-of_z w32 c.args.b c.ranges.b))

@@ -12,13 +12,13 @@ two x = rw (div-one x)
 
 pub returns-then-width-eq1 : goal.returns-then-width-eq1
 returns-then-width-eq1 c =
-    c.put-byte.ensures ∙ ap (splice c.args.out.now c.args.at) (one c.args.number ∙ ap (λ (w : ℕ). big w c.args.number) (sym c.if-width-eq1.true))
+    c.put_byte.ensures ∙ ap (splice c.args.out.now c.args.at) (one c.args.number ∙ ap (λ (w : ℕ). big w c.args.number) (sym c.if-width-eq1.true))
 
 pub returns : goal.returns
 returns c =
     let w : c.args.width ≡ 2 = omega arith in
     let n = c.args.number in
-    c.put-byte-3.ensures
-    ∙ ap (λ (r : List ℕ). splice r (c.args.at + 1) (n % 256 ∷ [])) c.put-byte-2.ensures
+    c.put_byte-3.ensures
+    ∙ ap (λ (r : List ℕ). splice r (c.args.at + 1) (n % 256 ∷ [])) c.put_byte-2.ensures
     ∙ splice_splice c.args.out.now c.args.at (n / 256 % 256 ∷ []) (n % 256 ∷ []) (omega arith)
     ∙ ap (splice c.args.out.now c.args.at) (two n ∙ ap (λ (w : ℕ). big w n) (sym w))

@@ -17,7 +17,7 @@ returns c =
     let l : ℕ = c.args.language in
     let p = part_said c.args.default l c.if-language-default.false in
     let n = ap length p in
-    c.put-byte-3.ensures
-    ∙ ap (λ (r : List ℕ). splice r (at + 2) (l ∷ [])) (c.put-byte-2.ensures ∙ ap (λ (r : List ℕ). splice r (at + 1) (1 ∷ [])) c.put-byte.ensures)
+    c.put_byte-3.ensures
+    ∙ ap (λ (r : List ℕ). splice r (at + 2) (l ∷ [])) (c.put_byte-2.ensures ∙ ap (λ (r : List ℕ). splice r (at + 1) (1 ∷ [])) c.put_byte.ensures)
     ∙ three_bytes out at 0 1 l (omega (arith, c.requires))
     ∙ ap (splice out at) (sym p)

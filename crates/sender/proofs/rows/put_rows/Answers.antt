@@ -7,8 +7,8 @@ use Rattle.sender.proofs.Spliced.{splice_none}
 use Rattle.sender.proofs.Headed.{next_rest, first_writable, rest_writable, flat_turn_long, rows_turn, flat_none}
 use Rattle.sender.proofs.rows.put_rows.Goals as goal
 
-pub put-row-at-requires : goal.put-row-at-requires
-put-row-at-requires g c =
+pub put_row-at-requires : goal.put_row-at-requires
+put_row-at-requires g c =
     let f = g.L.Location.rows c.args.l.now in
     let d : ℕ = c.args.default in
     let xs : Rows = f c.loop-row.m in
@@ -29,10 +29,10 @@ loop-row-preserved g c =
     let ys : Rows = f c.in-Some-next.rest in
     let e : ys ≡ rest_of xs = next_rest f c.in-Some-next.rest xs c.in-Some-next.ensures in
     let n = flat_turn_long d xs ys e in (
-      rows_turn d xs ys c.loop-row.out c.put-row-at.new.out c.loop-row.at c.put-row-at.result e
-          c.put-row-at.ensures.wrote c.put-row-at.ensures.next (omega (arith, c.loop-row.invariant.1, c.requires.room))
+      rows_turn d xs ys c.loop-row.out c.put_row-at.new.out c.loop-row.at c.put_row-at.result e
+          c.put_row-at.ensures.wrote c.put_row-at.ensures.next (omega (arith, c.loop-row.invariant.1, c.requires.room))
           ∙ c.loop-row.invariant.0,
-      omega (arith, n, c.loop-row.invariant.1, c.put-row-at.ensures.next),
+      omega (arith, n, c.loop-row.invariant.1, c.put_row-at.ensures.next),
       rest_writable d xs ys e c.loop-row.invariant.2,
     )
 
@@ -40,7 +40,7 @@ pub returns : goal.returns
 returns g c =
     let d : ℕ = c.args.default in
     let xs : Rows = g.L.Location.rows c.args.l.now c.loop-row.m in
-    let e : flat d xs ≡ [] = flat_none d xs c.in-default.ensures in
+    let e : flat d xs ≡ [] = flat_none d xs c.in_default.ensures in
     let n = ap length e in
     record {
       wrote =
