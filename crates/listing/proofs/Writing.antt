@@ -1,14 +1,16 @@
 -- What is written of texts, rows and refusals, step by step.
-use Rattle.std.proofs.Common.{◌≡◌, ℕ, ◌+◌, ◌<◌, ◌≤◌, cond, List, [], ◌∷◌, ◌++◌, length, get_or, take, ℤ, is_ok, Some, None, Ok, Result, sym, refl, ap, ◌∙◌, append_assoc, append-nil, arith, w32, SFits, to_z, of_z}
+use Rattle.std.proofs.Common.{◌≡◌, ℕ, ◌+◌, ◌<◌, ◌≤◌, cond, List, [], ◌∷◌, ◌++◌, length, get_or, take, ℤ, is_ok, Some, None, Ok, codes, decimal, Result, sym, refl, ap, ◌∙◌, append_assoc, append-nil, arith, w32, SFits, to_z, of_z}
 use Rattle.std.specs.List.{slice_get}
 use Rattle.std.proofs.lemmas.List.{take_more, take_all}
 use Rattle.std.proofs.lemmas.Option.{slice_get-get_or, slice_get_past}
 use Rattle.std.proofs.lemmas.Int.{to_z-of_z}
 use Rattle.std.proofs.lemmas.Bool.{cases_lt}
 use Rattle.grammar.specs.Grammar.{Rows}
+use Rattle.grammar.specs.declared.fault.ReadFault.{ReadFault}
+use Rattle.grammar.specs.Faults.{number_of, place_of, level_of}
 use Rattle.location.specs.declared.Row.{Row}
 use Rattle.location.specs.Answers.{seen, head_row, head_text, Next}
-use Rattle.listing.specs.Listed.{hex, hexes, text_line, numbers_line, newline, first_line, lines}
+use Rattle.listing.specs.Listed.{hex, hexes, text_line, numbers_line, newline, first_line, lines, refused}
 
 -- one byte more of a text
 take_nth : (t : List ℕ) (i b : ℕ) → Some b ≡ slice_get t i → take (i + 1) t ≡ take i t ++ b ∷ []
@@ -40,6 +42,10 @@ lines_step f (x ∷ xs) m h = rw h
 -- a line more is written, and is no more to come
 pub line_more : (s t a b to-come whole : List ℕ) → t ≡ s ++ a → to-come ≡ a ++ b → s ++ to-come ≡ whole → t ++ b ≡ whole
 line_more s t a b to-come whole e f h = rw e (append_assoc s a b ∙ ap (λ x. s ++ x) (sym f) ∙ h)
+
+pub refused_by : (f : ReadFault) (n p l : ℕ) (s : List ℕ) → n ≡ number_of f → p ≡ place_of f → l ≡ level_of f
+    → s ≡ codes "NO " ++ (decimal n ++ (codes " " ++ (decimal p ++ (codes " " ++ (decimal l ++ newline))))) → s ≡ refused f
+refused_by f n p l s en ep el h = h ∙ simp (en, ep, el)
 
 -- what a push that went well adds
 pub pushed : {X E : Type 0} {r : Result X E} {u : X} (s t x : List ℕ) → r ≡ Ok u → t ≡ cond (is_ok r) (s ++ x) s → t ≡ s ++ x

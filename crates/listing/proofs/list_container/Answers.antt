@@ -8,4 +8,4 @@ use Rattle.listing.proofs.list_container.Goals as goal
 pub returns-in-Ok : goal.returns-in-Ok
 returns-in-Ok c =
     let read = reading_complete c.args.bytes.now (rows_of c.in-Ok.container) c.in-Ok.ensures.1 in
-    IfOk-weaker c.list-rows.result _ _ (λ s h. h ∙ sym (ap answered read)) c.list-rows.ensures
+    IfOk-weaker c.list_rows.result _ _ (λ s h. h ∙ sym (ap answered read)) c.list_rows.ensures

@@ -6,4 +6,4 @@ use Rattle.listing.proofs.restated.list_piled.Goals as goal
 
 pub returns : goal.returns
 returns g c =
-    IfOk-weaker c.list-with-sent.result _ _ (λ s h. h ∙ ap (λ (rows : Rows). with_sent rows) (c.pile-up-pile.ensures g.L.Location.whole)) c.list-with-sent.ensures
+    IfOk-weaker c.list_with_sent.result _ _ (λ s h. h ∙ ap (λ (rows : Rows). with_sent rows) (c.pile_up-pile.ensures g.L.Location.whole)) c.list_with_sent.ensures

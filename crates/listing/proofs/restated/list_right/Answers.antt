@@ -11,4 +11,4 @@ use Rattle.listing.proofs.restated.list_right.Goals as goal
 pub returns-in-Ok : goal.returns-in-Ok
 returns-in-Ok c =
     let read = reading_complete c.args.bytes.now (rows_of c.in-Ok.container) c.in-Ok.ensures.1 in
-    IfOk-weaker c.right-piled.result _ _ (λ s h. h ∙ sym (ap (λ (r : Read Rows). right_by (in_order c.args.order) r) read)) c.right-piled.ensures
+    IfOk-weaker c.right_piled.result _ _ (λ s h. h ∙ sym (ap (λ (r : Read Rows). right_by (in_order c.args.order) r) read)) c.right_piled.ensures

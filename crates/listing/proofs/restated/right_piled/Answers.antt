@@ -6,4 +6,4 @@ use Rattle.listing.proofs.restated.right_piled.Goals as goal
 
 pub returns : goal.returns
 returns g c =
-    IfOk-weaker c.list-sent.result _ _ (λ s h. h ∙ ap (λ (rows : Rows). right_of (codes "") rows) (c.pile-up-pile.ensures g.L.Location.whole)) c.list-sent.ensures
+    IfOk-weaker c.list_sent.result _ _ (λ s h. h ∙ ap (λ (rows : Rows). right_of (codes "") rows) (c.pile_up-pile.ensures g.L.Location.whole)) c.list_sent.ensures

@@ -2,7 +2,7 @@ use Rattle.std.proofs.Common.{◌≡◌, ℕ, true, false, get_or, drop, Some, N
 use Rattle.listing.specs.Unhexed.{digit_of, put_before, unhex_from, Half}
 use Rattle.listing.proofs.Unhexing.{step, waits, makes, at_end, at_half}
 use Rattle.listing.proofs.unhexed.read_hex.Goals as goal
-use Rattle.listing.proofs.unhexed.read_hex.Goals.{in-None, in-Some-high+in-ok-push}
+use Rattle.listing.proofs.unhexed.read_hex.Goals.{in-None, in-Some-high+in_ok-push-in-Some-high}
 
 pub loop-c-preserved-then-c-eq32 : goal.loop-c-preserved-then-c-eq32
 loop-c-preserved-then-c-eq32 c =
@@ -12,11 +12,11 @@ loop-c-preserved-then-c-eq32 c =
       c.loop-c.invariant.1,
     )
 
-pub returns-in-default : goal.returns-in-default
-returns-in-default c =
+pub returns-in_default : goal.returns-in_default
+returns-in_default c =
     let b = get_or c.args.text.now c.loop-c.c-index 0 in
     c.loop-c.invariant.0
-    ∙ ap (put_before (vec_items c.loop-c.out)) (step c.args.text.now c.loop-c.c-index c.loop-c-test.true c.loop-c.high false None (ne_eqb b 32 c.if-c-eq32.false) (sym c.in-default.ensures.value))
+    ∙ ap (put_before (vec_items c.loop-c.out)) (step c.args.text.now c.loop-c.c-index c.loop-c-test.true c.loop-c.high false None (ne_eqb b 32 c.if-c-eq32.false) (sym c.in_default.ensures.value))
 
 pub loop-c-preserved : goal.loop-c-preserved
 loop-c-preserved c =
@@ -31,9 +31,9 @@ loop-c-preserved c =
         waits xs o p i c.in-Some.low c.loop-c.high c.match-high.high c.loop-c-test.true b e c.loop-c.invariant.0 w.in-None.is (ap vec_items w.out-is) w.high-is,
         subst Half (sym w.high-is) c.in-Some.ensures.small,
       )
-      | in-Some-high+in-ok-push w ↦ (
+      | in-Some-high+in_ok-push-in-Some-high w ↦ (
         makes xs o p i c.in-Some.low c.loop-c.high c.match-high.high c.loop-c-test.true b e c.loop-c.invariant.0 w.in-Some-high.h w.in-Some-high.is
-            (ap vec_items w.out-is ∙ w.in-ok-push.ensures.items) w.high-is,
+            (ap vec_items w.out-is ∙ w.in_ok-push-in-Some-high.ensures.items) w.high-is,
         subst Half (sym w.high-is) tt,
       )
     ]

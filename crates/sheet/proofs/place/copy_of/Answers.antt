@@ -9,7 +9,7 @@ returns-then-n-out c =
     record {
       fits = sym (lt-leb (length text) (length c.args.out.now) c.if-n-out.true);
       wrote = refl;
-      bytes = bytes_each text (λ i. let f = c.type-inv.text i in omega arith);
+      bytes = bytes_each text (λ i. let f = c.type_inv.text i in omega arith);
     }
 
 pub returns : goal.returns
@@ -17,6 +17,6 @@ returns c =
     let text : List ℕ = c.args.text.now in
     record {
       fits = sym (le-leb (length text) (length c.args.out.now) c.if-n-out.false);
-      wrote = ap (λ (xs : List ℕ). xs ++ drop (length text) c.args.out.now) c.copy-from-slice.ensures.after;
-      bytes = bytes_each text (λ i. let f = c.type-inv.text i in omega arith);
+      wrote = ap (λ (xs : List ℕ). xs ++ drop (length text) c.args.out.now) c.copy_from_slice.ensures.after;
+      bytes = bytes_each text (λ i. let f = c.type_inv.text i in omega arith);
     }

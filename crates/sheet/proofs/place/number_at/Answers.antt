@@ -5,5 +5,5 @@ use Rattle.sheet.proofs.place.number_at.Goals as goal
 
 pub returns : goal.returns
 returns c =
-    let f : SFits w32 c.from-be-bytes.result = search rules in
-    to_z-of_z w32 c.from-be-bytes.result f ∙ c.from-be-bytes.ensures ∙ signed_at c.args.bytes.now c.args.at c.requires
+    let f : SFits w32 c.from_be_bytes.result = search rules in
+    to_z-of_z w32 c.from_be_bytes.result f ∙ c.from_be_bytes.ensures ∙ signed_at c.args.bytes.now c.args.at c.requires

@@ -5,8 +5,8 @@ use Rattle.sheet.proofs.place.record_row.Goals as goal
 
 pub returns : goal.returns
 returns c =
-    let fa : SFits w32 c.number-at.result = search rules in
-    let fb : SFits w32 c.number-at-2.result = search rules in
+    let fa : SFits w32 c.number_at.result = search rules in
+    let fb : SFits w32 c.number_at-2.result = search rules in
     row_read c.args.bytes.now c.args.at _ _ c.requires
-    (to_z-of_z w32 c.number-at.result fa ∙ c.number-at.ensures)
-    (to_z-of_z w32 c.number-at-2.result fb ∙ c.number-at-2.ensures)
+    (to_z-of_z w32 c.number_at.result fa ∙ c.number_at.ensures)
+    (to_z-of_z w32 c.number_at-2.result fb ∙ c.number_at-2.ensures)

@@ -9,5 +9,5 @@ returns c =
     let fa : SFits w32 row.a = search rules in
     let fb : SFits w32 row.b = search rules in
     ap₂ (λ (x y : List ℕ). row.depth ∷ row.kind ∷ (x ++ (y ++ (row.language ∷ row.length ∷ []))))
-    (four_bytes row.a _ (simp to_z-of_z at c.to-be-bytes.ensures))
-    (four_bytes row.b _ (simp to_z-of_z at c.to-be-bytes-2.ensures))
+    (four_bytes row.a _ (simp to_z-of_z at c.to_be_bytes.ensures))
+    (four_bytes row.b _ (simp to_z-of_z at c.to_be_bytes-2.ensures))

@@ -11,4 +11,4 @@ returns c =
     let text = c.args.text.now in
     laid _ _ _ _ text c.args.at (head_of (seen (with_text row text)))
     (c.head.ensures ∙ ap (λ (n : ℕ). row.depth ∷ row.kind ∷ (twos 4 row.a ++ (twos 4 row.b ++ (row.language ∷ n ∷ [])))) c.requires.sized)
-    (head_long (seen (with_text row text))) c.put-bytes.ensures c.put-bytes-2.ensures
+    (head_long (seen (with_text row text))) c.put_bytes.ensures c.put_bytes-2.ensures

@@ -12,11 +12,11 @@ returns g c =
     let at : ℕ = c.args.at in
     let text : List ℕ = head_text (g.L.Location.rows c.args.l.now c.args.m) in
     let n : row.length ≡ length text = head_length _ row c.requires.there in
-    let h : at + 12 + length text ≤ length c.put-bytes.new.buffer = omega arith in
+    let h : at + 12 + length text ≤ length c.put_bytes.new.buffer = omega arith in
     let new : List ℕ = _ in
     ap (λ (k : ℕ). take (at + (12 + k)) new) n
     ∙ laid _ _ _ _ text at (head_of (seen (with_text row text)))
     (c.head.ensures ∙ ap (λ (k : ℕ). row.depth ∷ row.kind ∷ (twos 4 row.a ++ (twos 4 row.b ++ (row.language ∷ k ∷ [])))) n)
-    (head_long (seen (with_text row text))) c.put-bytes.ensures
-    (copied_behind c.put-bytes.new.buffer c.copy-text.new.out text (at + 12) _ c.copy-text.result h refl
-    c.copy-text.ensures.fits c.copy-text.ensures.wrote)
+    (head_long (seen (with_text row text))) c.put_bytes.ensures
+    (copied_behind c.put_bytes.new.buffer c.copy_text.new.out text (at + 12) _ c.copy_text.result h refl
+    c.copy_text.ensures.fits c.copy_text.ensures.wrote)

@@ -13,10 +13,16 @@ returns-then-opened-eq0 c =
       same = refl;
     }
 
-pub invariant-of-self : goal.invariant-of-self
-invariant-of-self c =
+pub invariant_of-self : goal.invariant_of-self
+invariant_of-self c =
     let d = c.args.self.now in
-    (d.fits, (d.counted, (d.costs, (d.few, (ap standing c.without-opened.ensures ∙ less_stands (kinds_open d.opened) d.stands, tt)))))
+    record {
+      fits = d.fits;
+      counted = d.counted;
+      costs = d.costs;
+      few = d.few;
+      stands = ap standing c.without-opened.ensures ∙ less_stands (kinds_open d.opened) d.stands;
+    }
 
 pub returns : goal.returns
 returns c =

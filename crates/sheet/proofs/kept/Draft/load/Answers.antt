@@ -6,16 +6,16 @@ use Rattle.sheet.specs.Held.{held}
 use Rattle.sheet.proofs.Judges.{judged_load}
 use Rattle.sheet.proofs.kept.Draft.load.Goals as goal
 
-pub returns-in-err-replace : goal.returns-in-err-replace
-returns-in-err-replace c =
-    let p = err_from_is_err_and c.from-residual-in-err-replace.result c.from-residual-in-err-replace.ensures.1 in
+pub returns-in_err-replace : goal.returns-in_err-replace
+returns-in_err-replace c =
+    let p = err_from_is_err_and c.from_residual-in_err-replace.result c.from_residual-in_err-replace.ensures.1 in
     let d = c.args.self.now in
-    let new = rows_of c.in-ok-container.container in
-    let read = reading_complete c.args.bytes.now new c.in-ok-container.ensures.1 in
+    let new = rows_of c.in_ok-container.container in
+    let read = reading_complete c.args.bytes.now new c.in_ok-container.ensures.1 in
     record {
-      told = p.1 ∙ ap Err p.2 ∙ sym c.in-err-replace.was ∙ c.replace.ensures.told
+      told = p.1 ∙ ap Err p.2 ∙ sym c.in_err-replace.was ∙ c.replace.ensures.told
           ∙ judged_load (length d.store.buffer.now) (held d.store) new d.opened c.args.bytes.now read;
-      took = rw p.1 (c.in-err-replace.ensures.took, refl);
+      took = rw p.1 (c.in_err-replace.ensures.took, refl);
       named = c.replace.ensures.named;
       sized = c.replace.ensures.sized;
     }
@@ -23,12 +23,12 @@ returns-in-err-replace c =
 pub returns : goal.returns
 returns c =
     let d = c.args.self.now in
-    let new = rows_of c.in-ok-container.container in
-    let read = reading_complete c.args.bytes.now new c.in-ok-container.ensures.1 in
+    let new = rows_of c.in_ok-container.container in
+    let read = reading_complete c.args.bytes.now new c.in_ok-container.ensures.1 in
     record {
-      told = sym c.in-ok-replace.was ∙ c.replace.ensures.told
+      told = sym c.in_ok-replace.was ∙ c.replace.ensures.told
           ∙ judged_load (length d.store.buffer.now) (held d.store) new d.opened c.args.bytes.now read;
-      took = (read ∙ ap Ok (sym c.in-ok-replace.ensures.took), c.none-closed.ensures);
+      took = (read ∙ ap Ok (sym c.in_ok-replace.ensures.took), c.none-closed.ensures);
       named = c.replace.ensures.named;
       sized = c.replace.ensures.sized;
     }

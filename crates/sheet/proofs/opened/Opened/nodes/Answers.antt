@@ -9,11 +9,11 @@ loop-i-init c = sym (ap nodes_open (back_none c.args.self.now.kinds))
 
 turned : (c : goal.After-deeper-nodes) → c.deeper-nodes.result ≡ nodes_open (back (c.loop-i.i + 1) c.args.self.now.kinds)
 turned c =
-    nodes_more c.args.self.now.kinds c.loop-i.i c.loop-i.nodes c.deeper-nodes.result c.layout-of.result
-    c.layout-of.ensures c.loop-i.invariant c.deeper-nodes.ensures
+    nodes_more c.args.self.now.kinds c.loop-i.i c.loop-i.nodes c.deeper-nodes.result c.layout_of.result
+    c.layout_of.ensures c.loop-i.invariant c.deeper-nodes.ensures
 
-pub overflow-cast-nodes : goal.overflow-cast-nodes
-overflow-cast-nodes c =
+pub overflow_cast-nodes : goal.overflow_cast-nodes
+overflow_cast-nodes c =
     let few : c.deeper-nodes.result ≤ c.loop-i.i + 1 = nodes_within c.args.self.now.kinds (c.loop-i.i + 1) c.deeper-nodes.result (turned c) in
     omega arith
 

@@ -10,6 +10,6 @@ returns-then-self-eq0 c = spot_none c.args.self.now.kinds c.args.self.now.count 
 pub returns : goal.returns
 returns c =
     let some : 0 < c.args.self.now.count = omega arith in
-    ap (λ (l : Layout). l.inside) c.layout-of.ensures
+    ap (λ (l : Layout). l.inside) c.layout_of.ensures
     ∙ ap (λ (i : ℕ). (layout (get_or c.args.self.now.kinds i 0)).inside) c.from.ensures
     ∙ spot_last c.args.self.now.kinds c.args.self.now.count some

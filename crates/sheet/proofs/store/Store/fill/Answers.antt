@@ -7,8 +7,8 @@ use Rattle.sheet.specs.Held.{held}
 use Rattle.sheet.proofs.Filled.{head_next, head_length, taken_over, place_left, room_left}
 use Rattle.sheet.proofs.store.Store.fill.Goals as goal
 
-pub put-from-requires : goal.put-from-requires
-put-from-requires g c =
+pub put_from-requires : goal.put_from-requires
+put_from-requires g c =
     let l = c.loop-row in
     let f = g.L.Location.rows c.args.l.now in
     let ys : Rows = f l.at in
@@ -32,8 +32,8 @@ loop-row-preserved g c =
     let f = g.L.Location.rows c.args.l.now in
     let ys : Rows = f l.at in
     let e = head_next f c.in-Some-next.next ys c.in-Some.row c.in-Some.ensures c.in-Some-next.ensures in (
-      taken_over (held l.self) ys _ _ _ _ l.invariant.0 e c.put-from.ensures.took,
-      c.put-from.ensures.sound,
-      c.put-from.ensures.named ∙ l.invariant.2,
-      c.put-from.ensures.sized ∙ l.invariant.3,
+      taken_over (held l.self) ys _ _ _ _ l.invariant.0 e c.put_from.ensures.took,
+      c.put_from.ensures.sound,
+      c.put_from.ensures.named ∙ l.invariant.2,
+      c.put_from.ensures.sized ∙ l.invariant.3,
     )

@@ -19,16 +19,16 @@ returns g c =
     let n : row.length ≡ length text = head_length _ row c.requires.there in
     let to : ℕ = s.used + (12 + c.from.result) in
     let e : to ≡ s.used + cost_of r = omega (arith, n, c.from.ensures) in
-    let w : take to c.lay-from.new.buffer ≡ take s.used s.buffer.now ++ encoded r =
-    ap (λ (k : ℕ). take (s.used + (12 + k)) c.lay-from.new.buffer) c.from.ensures ∙ c.lay-from.ensures in
+    let w : take to c.lay_from.new.buffer ≡ take s.used s.buffer.now ++ encoded r =
+    ap (λ (k : ℕ). take (s.used + (12 + k)) c.lay_from.new.buffer) c.from.ensures ∙ c.lay_from.ensures in
     record {
       sound = record {
         fits = search rules;
-        counted = count_more s.count s.used to s.buffer.now c.lay-from.new.buffer r p.fits p.counted p.costs e w fa fb;
-        costs = cost_more s.count s.used to s.buffer.now c.lay-from.new.buffer r p.fits p.counted p.costs e w fa fb;
+        counted = count_more s.count s.used to s.buffer.now c.lay_from.new.buffer r p.fits p.counted p.costs e w fa fb;
+        costs = cost_more s.count s.used to s.buffer.now c.lay_from.new.buffer r p.fits p.counted p.costs e w fa fb;
         few = omega arith;
       };
-      took = rows_more s.count s.used to s.buffer.now c.lay-from.new.buffer r p.fits p.counted p.costs e w fa fb;
+      took = rows_more s.count s.used to s.buffer.now c.lay_from.new.buffer r p.fits p.counted p.costs e w fa fb;
       named = refl;
       sized = search rules;
     }
