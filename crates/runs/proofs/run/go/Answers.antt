@@ -19,10 +19,10 @@ step-draft-requires c =
       closed = c.loop-i.invariant.0.closed;
     }
 
-pub overflow-add-at : goal.overflow-add-at
-overflow-add-at c =
-    let within : c.loop-i.at + c.room-of-at.result ≤ length c.loop-i.out =
-    omega (arith, rooms_within c.args.calls.now c.loop-i.i blank_call c.loop-i-test.true, c.loop-i.invariant.3, c.loop-i.auto.out, c.requires.room, c.room-of-at.ensures) in
+pub overflow_add-at : goal.overflow_add-at
+overflow_add-at c =
+    let within : c.loop-i.at + c.room_of-at.result ≤ length c.loop-i.out =
+    omega (arith, rooms_within c.args.calls.now c.loop-i.i blank_call c.loop-i-test.true, c.loop-i.invariant.3, c.loop-i.auto.out, c.requires.room, c.room_of-at.ensures) in
     search rules
 
 pub loop-i-preserved : goal.loop-i-preserved
@@ -34,7 +34,7 @@ loop-i-preserved c =
       tied_more size c.args.calls.now l.i blank_call h l.draft l.live l.invariant.0 c.step-draft.result c.step-draft.new.live c.step-draft.ensures.turned c.step-draft.ensures.sized,
       shown_more size c.args.calls.now l.i blank_call h l.draft l.live l.invariant.0 c.args.answers.now l.answers c.step-draft.new.answer room l.invariant.1 c.step-draft.ensures.told,
       written_then size c.args.calls.now l.i blank_call h l.draft l.live l.invariant.0 c.args.out.now l.out c.step-draft.new.out l.at l.invariant.3 l.invariant.2 c.step-draft.ensures.wrote,
-      omega (arith, rooms_more c.args.calls.now l.i blank_call h, l.invariant.3, c.room-of-at.ensures),
+      omega (arith, rooms_more c.args.calls.now l.i blank_call h, l.invariant.3, c.room_of-at.ensures),
     )
 
 pub returns : goal.returns

@@ -14,8 +14,8 @@ returns-then-live c =
     let J : Bool → S.Answer = λ b. judge (stage_at b) (size_of d) (rows_held d) (rows_open d) k in
     let q = sym c.if-live.true in
     record {
-      told = c.step-draft.ensures.told ∙ ap (λ (b : Bool). shown (J b)) q;
+      told = c.step_draft.ensures.told ∙ ap (λ (b : Bool). shown (J b)) q;
       wrote = draft_wrote (size_of d) (rows_held d) (rows_open d) k c.args.at c.args.out.now ∙ ap (λ (b : Bool). put_at c.args.at (J b) c.args.out.now) q;
-      turned = subst (λ (b : Bool). Turned (stage_at b) (rows_held d) (rows_open d) k (J b) c.step-draft.result c.step-draft.new.live) q c.step-draft.ensures.turned;
-      sized = c.step-draft.ensures.sized;
+      turned = subst (λ (b : Bool). Turned (stage_at b) (rows_held d) (rows_open d) k (J b) c.step_draft.result c.step_draft.new.live) q c.step_draft.ensures.turned;
+      sized = c.step_draft.ensures.sized;
     }
