@@ -1,4 +1,6 @@
 // Facts that follow from the definitions: kinds by number, which defaults are open to choice, and worked pairs of bytes in and bytes sent.
+#![tactic(auto)]
+
 ghost use Rattle.facts.specs.Columns.{Columns};
 ghost use Rattle.facts.specs.Defaults.{OpenByLongNames};
 ghost use Rattle.facts.specs.Kinds.{KindsByNumber};

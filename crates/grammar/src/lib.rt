@@ -1,4 +1,6 @@
 // What a legal container is, what it tells, and how it is read: definitions in specs/, and the theorems that tie them together.
+#![tactic(auto)]
+
 ghost use Rattle.std.specs.Prelude.{◌≡◌};
 ghost use Rattle.grammar.specs.Admits.{AdmitsStands};
 ghost use Rattle.grammar.specs.Example.{Examples};

@@ -5,9 +5,9 @@ ghost use Rattle.std.specs.Prelude.{◌≡◌, ◌<◌, ◌++◌, length as long
 ghost use Rattle.location.specs.Answers.{head_row, head_text};
 ghost use Rattle.listing.specs.Listed.{hex_digit, hex, text_line, numbers_line, first_line, row_count, listed, refused, shown};
 
-use reader::Container;
 use grammar::ReadFault;
 use location::{Location, Row};
+use reader::Container;
 use std::alloc::{AllocError, Global};
 
 mod restated;

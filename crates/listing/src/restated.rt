@@ -7,10 +7,10 @@ ghost use Rattle.grammar.specs.Reading.{reading};
 ghost use Rattle.pile.specs.Through.{in_order, left_by_all};
 
 use super::{list_fault, list_rows, push_hex};
-use reader::Container;
 use grammar::SendFault;
 use location::Location;
 use pile::{Layered, Order, pile_up};
+use reader::Container;
 use sender::send;
 use std::alloc::{AllocError, Global};
 

@@ -1,4 +1,6 @@
 // A location: a list of rows that stays while it is looked at, mark by mark.
+#![tactic(auto)]
+
 ghost use Rattle.std.specs.Prelude.{◌≡◌, true, length as long, if◌then◌else◌, nat_le};
 ghost use Rattle.std.specs.List.{slice_get};
 ghost use Rattle.grammar.specs.Grammar.{Rows, Bytes};

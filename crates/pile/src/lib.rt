@@ -1,4 +1,6 @@
 // A pile of layers that is chosen while a program runs: each place of it has the language layer, the cut layer or none.
+#![tactic(auto)]
+
 ghost use Rattle.std.specs.Prelude.{◌≡◌, Some, None, slice_index_or};
 ghost use Rattle.pile.specs.Through.{seen_through, seen_pile, PutsOn, Ordered, Piled};
 

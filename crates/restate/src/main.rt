@@ -1,4 +1,6 @@
 // Reads a container from standard input, and prints its rows and what is sent for them, or why it is refused; or does so for a whole sheet of containers.
+#![tactic(auto)]
+
 use anyhow::anyhow;
 use listing::{list_column, list_restated, read_hex};
 use pile::{Layer, Order};

@@ -1,4 +1,6 @@
 // Scripts: calls that are made on one sheet, one after the other.
+#![tactic(auto)]
+
 ghost use Rattle.runs.specs.Example.{Examples};
 
 mod run;

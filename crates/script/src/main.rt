@@ -1,4 +1,6 @@
 // Reads a script from standard input, makes its calls on one sheet, and prints what each was answered.
+#![tactic(auto)]
+
 mod parsed;
 
 use anyhow::anyhow;

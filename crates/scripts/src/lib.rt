@@ -1,4 +1,6 @@
 // The calls of a script with bytes of their own, and the text that says what they are answered.
+#![tactic(auto)]
+
 mod answered;
 mod asked;
 mod played;

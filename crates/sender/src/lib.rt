@@ -1,4 +1,6 @@
 // Sends a location: the one container that its rows fix.
+#![tactic(auto)]
+
 ghost use Rattle.std.specs.Prelude.{◌≡◌, ℕ, ◌≤◌, ◌++◌, length as long, drop};
 ghost use Rattle.grammar.specs.Flat.{flat_container};
 ghost use Rattle.location.specs.Answers.{any_row};

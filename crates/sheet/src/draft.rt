@@ -8,9 +8,9 @@ use crate::judge::{Asked, longest_text};
 use crate::kept::{Draft, Fair};
 use crate::opened::Opened;
 use crate::store::Store;
-use reader::Container;
 use fields::fits_numbers;
 use grammar::{SheetFault, layout_of};
+use reader::Container;
 
 impl<'a> Draft<'a> {
     /// An unused sheet over a buffer.

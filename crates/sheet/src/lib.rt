@@ -1,4 +1,6 @@
 // A sheet: rows that lie in one borrowed buffer, as a draft that takes calls or as a fair copy that is a location.
+#![tactic(auto)]
+
 mod add;
 mod draft;
 mod fair;

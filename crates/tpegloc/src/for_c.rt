@@ -1,4 +1,4 @@
-// The calls for C. A byte slice is a pointer and a length there.
+// The calls for C, with a byte slice as a pointer and a length there: the crate tpegloc_c exports them.
 ghost use Rattle.std.specs.Prelude.{◌≡◌};
 ghost use Rattle.tpegloc.specs.Coded.{checked, restated, Restates};
 
@@ -9,8 +9,7 @@ use sender::send;
 const REFUSED: u32 = 1_000_000;
 
 // How many rows the container in the bytes tells, or 1,000,000 plus the number of the refusal.
-#[unsafe(no_mangle)]
-pub extern "C" fn check(bytes: &[u8]) -> u32
+pub fn check(bytes: &[u8]) -> u32
     ensures { result ≡ checked bytes.now }
 {
     match reader::check(bytes) {
@@ -20,8 +19,7 @@ pub extern "C" fn check(bytes: &[u8]) -> u32
 }
 
 // Sends the rows that the container in the bytes tells into the front of the output: how many bytes, or 1,000,000 plus the number of the refusal.
-#[unsafe(no_mangle)]
-pub extern "C" fn restate(bytes: &[u8], out: &mut [u8]) -> u32
+pub fn restate(bytes: &[u8], out: &mut [u8]) -> u32
     ensures answer { result ≡ (restated bytes.now out.old).0 }
     ensures output { out.new ≡ (restated bytes.now out.old).1 }
     ensures best { Restates bytes.now out.old result out.new }

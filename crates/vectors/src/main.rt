@@ -1,4 +1,6 @@
 // Checks a table of vectors: what bytes are, and what is sent for rows and for containers under layers.
+#![tactic(auto)]
+
 mod made;
 mod sending;
 
