@@ -10,7 +10,7 @@ loop-asked-preserved c =
     let i = c.loop-asked.asked-index in
     let item = c.asked-item.result in
     let calls = c.loop-asked.calls in
-    ap (map called) c.in-ok-push.ensures.items
+    ap (map called) c.in_ok-push.ensures.items
     ∙ map_push called (vec_items calls) c.call.result
     ∙ ap (λ x. map called (vec_items calls) ++ (x ∷ [])) (c.call.ensures ∙ ap asked_call c.asked-item.is)
     ∙ ap (λ xs. xs ++ (asked_call (get_or script i item) ∷ [])) c.loop-asked.invariant

@@ -9,8 +9,8 @@ use Rattle.scripts.specs.Played.{asked_call, sent_size, lines_from}
 use Rattle.scripts.proofs.Playing.{lines_here, lines_none, rooms_here, rooms_none}
 use Rattle.scripts.proofs.played.list_answers.Goals as goal
 
-pub overflow-add-at : goal.overflow-add-at
-overflow-add-at c =
+pub overflow_add-at : goal.overflow_add-at
+overflow_add-at c =
     let script = c.args.script.now in
     let i = c.loop-i.i in
     let item = c.index-script-i.result in
@@ -31,11 +31,11 @@ loop-i-preserved c =
     let room : c.room-at.result ≡ room_in (asked_call (get_or script i item)) =
     c.room-at.ensures ∙ ap (λ x. room_in (asked_call x)) c.index-script-i.is in
     let bytes : c.part-sent.result.now ≡ take (sent_size answer) (drop at out) =
-    c.part-sent.ensures ∙ ap (λ n. take n (drop at out)) c.sent-length.ensures in
-    let line : c.as-str.result.now ≡ answer_text answer (take (sent_size answer) (drop at out)) =
-    c.as-str.ensures.value ∙ c.in-ok-line.ensures ∙ ap (answer_text answer) bytes in
-    let written : string_bytes c.push-str.new.self ≡ string_bytes c.loop-i.text ++ answer_text answer (take (sent_size answer) (drop at out)) =
-    c.in-ok-push-str.ensures.bytes ∙ ap (λ xs. string_bytes c.loop-i.text ++ xs) line in
+    c.part-sent.ensures ∙ ap (λ n. take n (drop at out)) c.sent_length.ensures in
+    let line : c.as_str.result.now ≡ answer_text answer (take (sent_size answer) (drop at out)) =
+    c.as_str.ensures.value ∙ c.in_ok-line.ensures ∙ ap (answer_text answer) bytes in
+    let written : string_bytes c.push_str.new.self ≡ string_bytes c.loop-i.text ++ answer_text answer (take (sent_size answer) (drop at out)) =
+    c.in_ok-push_str.ensures.bytes ∙ ap (λ xs. string_bytes c.loop-i.text ++ xs) line in
     let there = lines_here at script answers out i item Done c.loop-i-test.true (omega (arith, c.loop-i-test.true, c.requires.answered)) in
     let rest : lines_from (at + room_in (asked_call (get_or script i item))) (map asked_call (drop (i + 1) script)) (drop (i + 1) answers) out
     ≡ lines_from (at + c.room-at.result) (map asked_call (drop (i + 1) script)) (drop (i + 1) answers) out =
