@@ -1,17 +1,16 @@
 -- A default stands by what one look over the rows finds; and the chosen one is the one with most texts, the lowest among equals.
 -- Assumes nothing.
-use Rattle.std.proofs.Common.{◌≡◌, ℕ, zero, suc, ◌+◌, ◌-◌, ◌*◌, ◌^◌, ◌<◌, ◌≤◌, Bool, true, false, not, ◌&&◌, ◌||◌, T, eqb, ltb, leb, ◌⊎◌, List, [], ◌∷◌, length, Some, None, Option, sym, refl, ap, ◌∙◌, subst, ap₂, inl, inr, true≢false, arith, eq-eqb, ne_eqb, eqb-true, le-leb, leb-false, leb-true}
-use borrow.Author.Tests.{lt-leb, eqb-false}
-use Rattle.grammar.specs.declared.table.Spot.TheVariants.{Descriptions}
+use Rattle.std.proofs.Common.{◌≡◌, ℕ, suc, ◌+◌, ◌*◌, ◌^◌, ◌<◌, ◌≤◌, Bool, true, false, not, ◌&&◌, ◌||◌, eqb, leb, ◌⊎◌, List, [], ◌∷◌, length, Some, None, Option, sym, refl, ap, ◌∙◌, inl, inr, arith, leb-false, leb-true}
+use borrow.Author.Tests.{lt-leb}
 use Rattle.grammar.specs.declared.table.Fields.{Fields}
 use Rattle.grammar.specs.declared.table.Fields.TheVariants.{Nothing, Code, Text, Globe, Floor, Count, Radius, Height}
 use Rattle.grammar.specs.Format.{layout, width, fixed_bytes}
 use Rattle.grammar.specs.Grammar.{Row, Byte, Bytes}
 use Rattle.grammar.specs.Reading.{if, is_text}
-use Rattle.grammar.specs.Deciding.{Shaped, Sound, RowsFit, RowFits, text_frame}
-use Rattle.grammar.specs.Sending.{gather, counts, texts_in, fields_size, body_size, full_size, frame, Stands, stands?, stands, is_yes, score, most, sent, sending}
-use Rattle.grammar.specs.Admits.{admits, top_level, AdmitsStands}
-use Rattle.grammar.specs.Choice.{over, tight, any_over, suits, bare_size, base_size, texts, ByteRows, length_under, StandsBy}
+use Rattle.grammar.specs.Deciding.{RowsFit, RowFits}
+use Rattle.grammar.specs.Sending.{counts, texts_in, fields_size, body_size, full_size, frame, stands?, stands, is_yes, score, most, sent, sending}
+use Rattle.grammar.specs.Admits.{admits, top_level}
+use Rattle.grammar.specs.Choice.{over, tight, any_over, suits, base_size, texts, ByteRows, length_under, StandsBy}
 use Rattle.grammar.proofs.Cut.{by_cases}
 use Rattle.grammar.proofs.Chosen.{Most, most_is}
 use Rattle.grammar.proofs.Admitted.{admits_stands}

@@ -1,5 +1,5 @@
 -- The highest of the numbers that pass a test.
-use Rattle.std.proofs.Common.{◌≡◌, ℕ, zero, suc, ◌+◌, ◌<◌, ◌≤◌, Bool, true, false, T, ltb, ◌⊎◌, Some, None, Option, sym, refl, ap, ◌∙◌, subst, inl, inr, true≢false, arith}
+use Rattle.std.proofs.Common.{◌≡◌, ℕ, zero, suc, ◌<◌, ◌≤◌, Bool, true, false, ◌⊎◌, Some, None, Option, sym, refl, ◌∙◌, subst, inl, inr, true≢false, arith}
 use native.Mathlib.Decide.{dec_lt}
 use Rattle.grammar.specs.Sending.{better, most}
 use Rattle.grammar.proofs.Gathered.{on_ltb}

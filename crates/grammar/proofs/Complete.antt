@@ -1,20 +1,18 @@
 -- The reader accepts every legal container, and gives the rows that it tells.
 -- Assumes nothing.
-use Rattle.std.proofs.Common.{◌≡◌, ℕ, zero, suc, ◌+◌, ◌-◌, ◌*◌, ◌/◌, ◌%◌, ◌^◌, ◌<◌, ◌≤◌, Bool, true, false, not, ◌&&◌, ◌||◌, T, eqb, ltb, leb, List, [], ◌∷◌, ◌++◌, length, get_or, take, drop, ℤ, pos, negsuc, Some, None, Ok, Err, sym, refl, ap, ◌∙◌, subst, ap₂, subst₂, append_assoc, arith, length-append, take-append-drop, take_at, drop_at, ltb-false, ltb-true, le-ltb, eq-eqb, ne_eqb, eqb-true}
-use borrow.Author.Tests.{eqb-false}
+use Rattle.std.proofs.Common.{◌≡◌, ℕ, zero, suc, ◌+◌, ◌-◌, ◌^◌, ◌<◌, ◌≤◌, Bool, true, false, not, ◌&&◌, eqb, ltb, List, [], ◌∷◌, ◌++◌, length, get_or, drop, ℤ, pos, None, Ok, sym, refl, ap, ◌∙◌, subst, subst₂, arith, length-append, take_at, drop_at, le-ltb, eq-eqb, ne_eqb}
 use Rattle.grammar.specs.declared.table.Spot.TheVariants.{Descriptions, Node, Reference, Place, Modes, Associated, Nowhere}
 use Rattle.grammar.specs.declared.table.Spot.{Spot}
 use Rattle.grammar.specs.declared.table.Fields.{Fields}
-use Rattle.grammar.specs.declared.table.Fields.TheVariants.{Nothing, Code, Text, Globe, Floor, Count, Radius, Height}
+use Rattle.grammar.specs.declared.table.Fields.TheVariants.{Nothing, Text}
 use Rattle.grammar.specs.Format.{width, layout, kind_at, big, header, fixed, Fit}
-use Rattle.grammar.specs.Grammar.{Row, Byte, Bytes, Tail, TailLegal, tail_bytes, said, Parts, none, unknown, named, held, bytes_of, how_many, tell, PartsLegal, PassedOver, deeper, Tops, no_more, passed, described, tops_bytes, TopsLegal, tops_tell, Container, sent_as, Good, told, Tells}
-use Rattle.grammar.specs.declared.fault.ReadFault.{ReadFault}
-use Rattle.grammar.specs.Reading.{Read, if, then, cut, Piece, Spoken, or_else, tail, Reader, name, component, of_kind, parts, tops, reading, counted, sealed, miscounted, empty, closed, is_text, is_count, least, off_globe, first_number, second_number}
+use Rattle.grammar.specs.Grammar.{Row, Tail, TailLegal, tail_bytes, said, Parts, none, unknown, named, held, bytes_of, how_many, tell, PartsLegal, PassedOver, deeper, Tops, no_more, passed, described, tops_bytes, TopsLegal, tops_tell, Container, sent_as, Good, told, Tells}
+use Rattle.grammar.specs.Reading.{Read, cut, tail, Reader, component, of_kind, parts, tops, reading, counted, sealed, miscounted, closed, is_text, is_count, least, off_globe}
 use Rattle.grammar.proofs.Numbers.{length_big}
 use Rattle.grammar.proofs.Cut.{pass, go_then, by_cases, cut_complete}
 use Rattle.grammar.proofs.Tails.{tail_complete}
 use Rattle.grammar.proofs.Lines.{counts_agree, text_closed}
-use Rattle.grammar.proofs.Fixed.{no_count, Reads, fields_read}
+use Rattle.grammar.proofs.Fixed.{no_count, fields_read}
 
 frame_size : (s : Spot) (id : ℕ) (body rest : List ℕ) → length ((header s id (length body) ++ body) ++ rest) ≡ suc (width s) + (length body + length rest)
 frame_size s id body rest =

@@ -1,8 +1,8 @@
 -- The reading accepts exactly the legal containers, in the forms that contracts use.
 -- Assumes nothing.
-use Rattle.std.proofs.Common.{◌≡◌, ℕ, zero, suc, ◌<◌, List, [], ◌∷◌, length, get_or, Ok, Err, sym, refl, ap, ◌∙◌, subst}
+use Rattle.std.proofs.Common.{◌≡◌, ℕ, zero, suc, ◌<◌, List, [], ◌∷◌, get_or, Ok, Err, sym, refl, ◌∙◌, subst}
 use Rattle.grammar.specs.declared.fault.ReadFault.{ReadFault}
-use Rattle.grammar.specs.Grammar.{Row, Rows, Bytes, Tells, Legal}
+use Rattle.grammar.specs.Grammar.{Rows, Bytes, Tells}
 use Rattle.grammar.specs.Reading.{Read, reading}
 use Rattle.grammar.specs.Checks.{many}
 use Rattle.grammar.specs.Theorems.{OneMeaning, RefusesRightly, ToldExactly}

@@ -1,13 +1,13 @@
 -- The fixed fields: what is written reads back, and what is read is written back.
 -- Assumes nothing.
-use Rattle.std.proofs.Common.{◌≡◌, ℕ, zero, suc, ◌+◌, ◌-◌, ◌*◌, ◌/◌, ◌%◌, ◌^◌, ◌<◌, ◌≤◌, Bool, true, false, not, ◌&&◌, ◌||◌, T, eqb, ltb, leb, List, [], ◌∷◌, ◌++◌, length, get_or, take, drop, ℤ, pos, negsuc, sym, refl, ap, ◌∙◌, subst, ap₂, append_assoc, arith, length-append, length-drop, take-add, drop_at, ltb-false, ltb-true, le-ltb, lt-ltb}
+use Rattle.std.proofs.Common.{◌≡◌, ℕ, suc, ◌-◌, ◌<◌, ◌≤◌, Bool, true, false, ◌||◌, List, [], ◌∷◌, ◌++◌, length, get_or, take, drop, ℤ, pos, negsuc, sym, refl, ap, ◌∙◌, ap₂, append_assoc, arith, length-append, length-drop, take-add, drop_at, ltb-false, le-ltb}
 use Rattle.grammar.specs.declared.table.Fields.{Fields}
 use Rattle.grammar.specs.declared.table.Fields.TheVariants.{Nothing, Code, Text, Globe, Floor, Count, Radius, Height}
-use Rattle.grammar.specs.Format.{big, twos, fixed, Fit, Between, UpTo, natural}
-use Rattle.grammar.specs.Grammar.{Byte, Bytes}
-use Rattle.grammar.specs.Reading.{value, number, signed, if, least, first_number, second_number, off_globe, is_text, is_count, beyond}
+use Rattle.grammar.specs.Format.{big, twos, fixed, Fit, Between}
+use Rattle.grammar.specs.Grammar.{Bytes}
+use Rattle.grammar.specs.Reading.{signed, least, first_number, second_number, off_globe, is_text, is_count, beyond}
 use Rattle.grammar.proofs.Tails.{big_one}
-use Rattle.grammar.proofs.Numbers.{length_twos, number_big, number_lt, big_number, signed_twos, twos_signed, signed_between, length_big, bytes_drop}
+use Rattle.grammar.proofs.Numbers.{length_twos, number_big, number_lt, big_number, signed_twos, twos_signed, signed_between, bytes_drop}
 
 module _ (f : Fields) (bs : List ℕ) (n : ℕ) where
   pub record Writes : Type 0 where

@@ -1,7 +1,7 @@
 -- Row by row, the bytes are those of the tree that the rows are gathered to.
 -- The rows that a tree tells, with others after them, are written as the tree's bytes with the others' after them; and rows that have the shape of a tree
 -- are what their tree tells.
-use Rattle.std.proofs.Common.{◌≡◌, ℕ, zero, suc, ◌+◌, ◌*◌, ◌<◌, ◌≤◌, Bool, true, false, T, eqb, ltb, List, [], ◌∷◌, ◌++◌, length, ℤ, pos, negsuc, sym, refl, ap, ◌∙◌, subst, append_assoc, append-nil, arith, eqb→eq, length-append}
+use Rattle.std.proofs.Common.{◌≡◌, ℕ, suc, ◌+◌, ◌*◌, ◌<◌, ◌≤◌, Bool, true, false, eqb, List, [], ◌∷◌, ◌++◌, length, ℤ, pos, sym, refl, ap, ◌∙◌, subst, append_assoc, append-nil, arith, eqb→eq, length-append}
 use native.Mathlib.Decide.{dec_lt}
 use Rattle.grammar.specs.declared.table.Spot.TheVariants.{Descriptions}
 use Rattle.grammar.specs.declared.table.Spot.{Spot}
@@ -10,7 +10,7 @@ use Rattle.grammar.specs.Format.{width, layout, table, blank, big, fixed, header
 use Rattle.grammar.specs.Grammar.{Row, Tail, Parts, none, unknown, named, held, tail_bytes, how_many, bytes_of, said, tell, deeper, sent_as}
 use Rattle.grammar.specs.Reading.{if, is_text}
 use Rattle.grammar.specs.Deciding.{Shaped, Sound}
-use Rattle.grammar.specs.Sending.{part, gather, normal, tail_for, spoken_unless, tops_for, candidate, texts_in, full_size, frame}
+use Rattle.grammar.specs.Sending.{part, gather, normal, tail_for, spoken_unless, tops_for, texts_in, full_size, frame}
 use Rattle.grammar.specs.Flat.{language_part, front, own_size, inside_size, held_count, row_bytes, flat, flat_container, FlatStands}
 use Rattle.grammar.proofs.Lines.{line_at}
 use Rattle.grammar.proofs.Normal.{on_eqb, length_big, size_named, size_held}

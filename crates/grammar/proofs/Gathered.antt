@@ -1,10 +1,10 @@
 -- The rows of a legal tree are gathered to that tree, less what it does not tell.
-use Rattle.std.proofs.Common.{◌≡◌, ℕ, zero, suc, ◌+◌, ◌^◌, ◌<◌, ◌≤◌, Bool, true, false, T, eqb, ltb, leb, ◌⊎◌, List, [], ◌∷◌, ◌++◌, ℤ, pos, negsuc, sym, refl, ap, ◌∙◌, subst, inl, inr, append_assoc, append-nil, arith, le→leb, leb→le}
+use Rattle.std.proofs.Common.{◌≡◌, ℕ, suc, ◌<◌, ◌≤◌, Bool, true, false, T, ltb, List, [], ◌∷◌, ◌++◌, ℤ, pos, sym, refl, ap, ◌∙◌, subst, append_assoc, append-nil, arith, le→leb, leb→le}
 use Rattle.grammar.specs.declared.table.Spot.{Spot}
 use Rattle.grammar.specs.declared.table.Fields.{Fields}
 use Rattle.grammar.specs.declared.table.Fields.TheVariants.{Nothing, Code, Text, Globe, Floor, Count, Radius, Height}
 use Rattle.grammar.specs.Format.{layout, Fit}
-use Rattle.grammar.specs.Grammar.{Row, Tail, Parts, none, unknown, named, held, how_many, said, tell, deeper, PartsLegal}
+use Rattle.grammar.specs.Grammar.{Row, Parts, none, unknown, named, held, how_many, said, tell, deeper, PartsLegal}
 use Rattle.grammar.specs.Reading.{is_text}
 use Rattle.grammar.specs.Sending.{part, gather}
 use Rattle.grammar.proofs.Normal.{on_eqb, full}

@@ -1,32 +1,11 @@
 -- A tree is legal under a default where its kinds stand right, its texts fit under that default, and the whole is within its limit.
-use Rattle.std.proofs.Common.{◌≡◌, ℕ, zero, suc, ◌+◌, ◌^◌, ◌<◌, ◌≤◌, Bool, true, false, T, eqb, leb, ◌⊎◌, List, [], ◌∷◌, ◌++◌, length, ℤ, pos, negsuc, sym, refl, ap, ◌∙◌, subst, inl, inr, arith, length-append}
+use Rattle.std.proofs.Common.{◌≡◌, ℕ, suc, ◌+◌, ◌^◌, ◌<◌, ◌≤◌, Bool, true, false, T, eqb, ◌⊎◌, List, [], ◌∷◌, ◌++◌, length, pos, sym, refl, ap, subst, inl, inr, arith, length-append}
 use Rattle.grammar.specs.declared.table.Spot.TheVariants.{Descriptions, Node, Reference, Place, Modes, Associated, Nowhere}
 use Rattle.grammar.specs.declared.table.Spot.{Spot}
 use Rattle.grammar.specs.declared.table.Fields.{Fields}
 use Rattle.grammar.specs.declared.table.Fields.TheVariants.{Nothing, Code, Text, Globe, Floor, Count, Radius, Height}
-use Rattle.grammar.specs.Format.{width, layout, fixed, Fit, kind_at}
-use Rattle.grammar.specs.Grammar.{
-  Row,
-  Tail,
-  bare,
-  other,
-  spoken,
-  Parts,
-  none,
-  unknown,
-  named,
-  held,
-  tail_bytes,
-  how_many,
-  bytes_of,
-  said,
-  tell,
-  Byte,
-  Bytes,
-  TailLegal,
-  deeper,
-  PartsLegal,
-}
+use Rattle.grammar.specs.Format.{width, layout, fixed, kind_at}
+use Rattle.grammar.specs.Grammar.{Row, Tail, bare, other, spoken, Parts, none, unknown, named, held, tail_bytes, how_many, bytes_of, said, tell, Byte, TailLegal, deeper, PartsLegal}
 use Rattle.grammar.specs.Reading.{is_text}
 use Rattle.grammar.specs.Deciding.{Sound, text_frame, RowFits, RowsFit}
 use Rattle.grammar.specs.Sending.{spoken_unless, tail_for, normal, fields_size}

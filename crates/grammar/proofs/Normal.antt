@@ -1,32 +1,11 @@
 -- The normal tree under a default: no unknown component, and of each text's tail a language part exactly where its language is not the default.
-use Rattle.std.proofs.Common.{◌≡◌, ℕ, zero, suc, ◌+◌, ◌^◌, ◌<◌, ◌≤◌, Bool, true, false, T, eqb, ◌⊎◌, List, [], ◌∷◌, ◌++◌, length, ℤ, pos, negsuc, sym, refl, ap, ◌∙◌, subst, inl, inr, arith, eqb→eq, length-append}
+use Rattle.std.proofs.Common.{◌≡◌, ℕ, zero, suc, ◌+◌, ◌<◌, ◌≤◌, Bool, true, false, T, eqb, ◌⊎◌, List, [], ◌∷◌, ◌++◌, length, ℤ, pos, sym, refl, ap, subst, inl, inr, arith, eqb→eq, length-append}
 use lib.Dec.{eqb_refl}
 use Rattle.grammar.specs.declared.table.Spot.{Spot}
 use Rattle.grammar.specs.declared.table.Fields.{Fields}
 use Rattle.grammar.specs.declared.table.Fields.TheVariants.{Nothing, Code, Text, Globe, Floor, Count, Radius, Height}
-use Rattle.grammar.specs.Format.{width, layout, header, fixed, Fit, kind_at, big}
-use Rattle.grammar.specs.Grammar.{
-  Row,
-  Tail,
-  bare,
-  other,
-  spoken,
-  Parts,
-  none,
-  unknown,
-  named,
-  held,
-  tail_bytes,
-  how_many,
-  bytes_of,
-  said,
-  tell,
-  Byte,
-  Bytes,
-  TailLegal,
-  deeper,
-  PartsLegal,
-}
+use Rattle.grammar.specs.Format.{width, layout, header, fixed, Fit, big}
+use Rattle.grammar.specs.Grammar.{Tail, bare, other, spoken, Parts, none, unknown, named, held, tail_bytes, how_many, bytes_of, said, tell, deeper, PartsLegal}
 use Rattle.grammar.specs.Sending.{spoken_unless, tail_for, normal}
 use Rattle.grammar.specs.Deciding.{Sound}
 

@@ -1,11 +1,11 @@
 -- Numbers written in bytes read back, and bytes read as a number are written back.
 -- Assumes nothing.
-use Rattle.std.proofs.Common.{◌≡◌, ℕ, zero, suc, ◌+◌, ◌-◌, ◌*◌, ◌/◌, ◌%◌, ◌^◌, ◌<◌, ◌≤◌, Bool, true, false, T, eqb, ltb, leb, List, [], ◌∷◌, ◌++◌, length, get_or, take, drop, ℤ, pos, negsuc, sym, refl, ap, ◌∙◌, subst, ap₂, mod-lt, mod-eq_of_lt, mul_assoc, mul_comm, pow-suc, arith, length-take-le, take_at, drop_at, ltb-false, ltb-true, le-ltb, lt-ltb}
+use Rattle.std.proofs.Common.{◌≡◌, ℕ, zero, suc, ◌+◌, ◌-◌, ◌*◌, ◌/◌, ◌%◌, ◌^◌, ◌<◌, ◌≤◌, Bool, true, false, ltb, List, [], ◌∷◌, ◌++◌, length, take, drop, ℤ, pos, negsuc, sym, refl, ap, ◌∙◌, ap₂, mod-eq_of_lt, mul_assoc, mul_comm, pow-suc, arith, length-take-le, take_at, ltb-false, ltb-true, le-ltb, lt-ltb}
 use native.Mathlib.Nat.{mod-one, mul-add-div_right, mul-add-mod_self_right}
-use lib.Arith.{mod-mul, digits_div, digits_lt, digits_mod}
+use lib.Arith.{mod-mul, digits_div, digits_lt}
 use Rattle.grammar.specs.Format.{big, twos, Between}
-use Rattle.grammar.specs.Grammar.{Byte, Bytes}
-use Rattle.grammar.specs.Reading.{value, number, signed, if}
+use Rattle.grammar.specs.Grammar.{Bytes}
+use Rattle.grammar.specs.Reading.{value, number, signed}
 
 pub pow_positive : (n : ℕ) → 0 < 256 ^ n
 pow_positive zero = omega arith

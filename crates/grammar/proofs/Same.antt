@@ -1,16 +1,15 @@
 -- The reading by offset is the reading.
 -- Assumes nothing.
-use Rattle.std.proofs.Common.{◌≡◌, ℕ, zero, suc, ◌+◌, ◌-◌, ◌*◌, ◌^◌, ◌<◌, ◌≤◌, Bool, true, false, not, ◌&&◌, ◌||◌, T, eqb, ltb, leb, List, [], ◌∷◌, ◌++◌, length, get_or, take, drop, ℤ, pos, negsuc, Some, None, Ok, Err, sym, refl, ap, ◌∙◌, subst, ap₂, subst₂, arith, length-drop, ltb-false, ltb-true, le-ltb, lt-ltb, eq-eqb, ne_eqb, eqb-true, le-leb, leb-false, leb-true}
-use lib.Seq.{slice, slice_empty, slice-cons, length-slice, drop-length}
-use borrow.Author.Tests.{lt-leb, eqb-false, not-true, not-false}
+use Rattle.std.proofs.Common.{◌≡◌, ℕ, zero, suc, ◌+◌, ◌-◌, ◌*◌, ◌<◌, ◌≤◌, Bool, true, false, not, ◌&&◌, ◌||◌, eqb, ltb, leb, List, [], ◌∷◌, length, get_or, take, drop, ℤ, pos, None, Ok, sym, refl, ap, ◌∙◌, subst, ap₂, arith, ltb-false, lt-ltb, eq-eqb, ne_eqb, eqb-true, leb-false, leb-true}
+use lib.Seq.{slice, slice_empty, slice-cons, length-slice}
+use borrow.Author.Tests.{eqb-false, not-false}
 use Rattle.grammar.specs.declared.table.Spot.TheVariants.{Descriptions, Node, Reference, Place, Modes, Associated, Nowhere}
 use Rattle.grammar.specs.declared.table.Spot.{Spot}
 use Rattle.grammar.specs.declared.table.Fields.{Fields}
 use Rattle.grammar.specs.declared.table.Fields.TheVariants.{Nothing, Code, Text, Globe, Floor, Count, Radius, Height}
 use Rattle.grammar.specs.Format.{width, layout, kind_at}
-use Rattle.grammar.specs.Grammar.{Row, deeper}
-use Rattle.grammar.specs.declared.fault.ReadFault.{ReadFault}
-use Rattle.grammar.specs.Reading.{Read, if, then, cut, Piece, number, value, signed, Spoken, heard, or_else, tail, Reader, name, component, of_kind, parts, tops, reading, counted, sealed, miscounted, empty, closed, is_text, is_count, least, off_globe, first_number, second_number, beyond}
+use Rattle.grammar.specs.Grammar.{deeper}
+use Rattle.grammar.specs.Reading.{if, then, signed, Spoken, heard, or_else, tail, name, of_kind, parts, tops, reading, counted, sealed, miscounted, empty, closed, is_text, is_count, least, off_globe, first_number, second_number, beyond}
 use Rattle.grammar.specs.Offsets as O
 use Rattle.grammar.proofs.Cut.{by_cases}
 use Rattle.grammar.proofs.Lines.{counts_agree}

@@ -1,8 +1,7 @@
 -- What is sent is the best that tells the rows.
-use Rattle.std.proofs.Common.{◌≡◌, ℕ, zero, suc, ◌+◌, ◌*◌, ◌<◌, ◌≤◌, Bool, true, false, ◌⊎◌, List, [], ◌∷◌, ◌++◌, length, Some, None, Option, sym, refl, ap, ◌∙◌, subst, inl, inr, true≢false, append-nil, arith, length-append}
+use Rattle.std.proofs.Common.{◌≡◌, ℕ, suc, ◌+◌, ◌*◌, ◌<◌, ◌≤◌, true, false, ◌⊎◌, List, [], ◌++◌, length, Some, None, Option, sym, refl, ap, ◌∙◌, subst, inl, inr, true≢false, append-nil, arith, length-append}
 use native.Mathlib.Decide.{ℕ_discrete}
 use Rattle.grammar.specs.declared.table.Spot.TheVariants.{Descriptions}
-use Rattle.grammar.specs.Format.{big}
 use Rattle.grammar.specs.Grammar.{
   Row,
   Parts,
@@ -30,7 +29,7 @@ use Rattle.grammar.specs.Grammar.{
   Best,
 }
 use Rattle.grammar.specs.Deciding.{Shaped, Sound, RowsFit}
-use Rattle.grammar.specs.Sending.{gather, normal, tops_for, candidate, is_yes, Stands, stands?, stands, texts_in, full_size, frame, most, score, sent, sending, SendingStands, StandsExactly, SizesStand, BestIsOne}
+use Rattle.grammar.specs.Sending.{gather, normal, tops_for, candidate, is_yes, Stands, stands?, stands, texts_in, full_size, frame, most, score, sent, SendingStands, StandsExactly, SizesStand, BestIsOne}
 use Rattle.grammar.proofs.Normal.{tell_normal, Shortens, at_most, shortens, full, normal_full, sound_full}
 use Rattle.grammar.proofs.Gathered.{gather_tell}
 use Rattle.grammar.proofs.Shapes.{tell_gather, tell_shaped}

@@ -1,11 +1,11 @@
 -- What is sent, by what one look over the rows finds.
 -- Assumes nothing.
-use Rattle.std.proofs.Common.{◌≡◌, ℕ, ◌+◌, ◌*◌, ◌<◌, ◌≤◌, Bool, true, false, not, ◌&&◌, ltb, leb, ◌⊎◌, List, [], ◌∷◌, length, Some, None, sym, refl, ap, ◌∙◌, subst, inl, inr, arith, le-leb, leb-true}
+use Rattle.std.proofs.Common.{◌≡◌, ℕ, ◌<◌, ◌≤◌, Bool, true, false, ◌&&◌, leb, ◌⊎◌, List, length, Some, None, sym, refl, ap, ◌∙◌, arith, le-leb}
 use Rattle.grammar.specs.Grammar.{Row}
-use Rattle.grammar.specs.Sending.{texts_in, stands, sending, full_size, frame}
+use Rattle.grammar.specs.Sending.{texts_in, stands, sending}
 use Rattle.grammar.specs.Flat.{flat_container}
 use Rattle.grammar.specs.Admits.{admits, top_level}
-use Rattle.grammar.specs.Choice.{any_over, suits, ByteRows, length_under, base_size, texts}
+use Rattle.grammar.specs.Choice.{any_over, suits, ByteRows, length_under}
 use Rattle.grammar.proofs.Admitted.{admits_stands}
 use Rattle.grammar.proofs.Choosing.{stands_by, chosen, none_chosen, texts_in_le, full_is}
 use Rattle.grammar.proofs.Flattened.{flat_stands, container_length}

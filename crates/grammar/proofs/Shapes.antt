@@ -1,11 +1,9 @@
 -- Rows that have the shape of a tree are told by the tree that they are gathered to, and the rows that a legal tree tells have it.
-use Rattle.std.proofs.Common.{◌≡◌, ℕ, zero, suc, ◌+◌, ◌<◌, ◌≤◌, Bool, true, false, ◌⊎◌, List, [], ◌∷◌, ◌++◌, ℤ, pos, negsuc, sym, refl, ap, ◌∙◌, subst, inl, inr, append_assoc, append-nil, arith}
+use Rattle.std.proofs.Common.{◌≡◌, ℕ, zero, suc, ◌<◌, ◌≤◌, Bool, true, false, List, [], ◌∷◌, ◌++◌, pos, sym, refl, ap, ◌∙◌, subst, append_assoc, append-nil, arith}
 use native.Mathlib.Decide.{dec_lt}
 use Rattle.grammar.specs.declared.table.Spot.{Spot}
-use Rattle.grammar.specs.declared.table.Fields.{Fields}
-use Rattle.grammar.specs.declared.table.Fields.TheVariants.{Nothing, Code, Text, Globe, Floor, Count, Radius, Height}
 use Rattle.grammar.specs.Format.{layout}
-use Rattle.grammar.specs.Grammar.{Row, Tail, Parts, none, unknown, named, held, how_many, said, tell, deeper, PartsLegal}
+use Rattle.grammar.specs.Grammar.{Row, Parts, none, unknown, named, held, how_many, said, tell, deeper, PartsLegal}
 use Rattle.grammar.specs.Reading.{is_text}
 use Rattle.grammar.specs.Deciding.{Plain, next, Shaped}
 use Rattle.grammar.specs.Sending.{part, gather}

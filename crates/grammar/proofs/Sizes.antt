@@ -1,13 +1,12 @@
 -- The length of a normal tree's bytes, by its rows and the default alone.
-use Rattle.std.proofs.Common.{◌≡◌, ℕ, zero, suc, ◌+◌, ◌*◌, ◌<◌, ◌≤◌, Bool, true, false, not, ◌&&◌, T, eqb, ltb, ◌⊎◌, List, [], ◌∷◌, ◌++◌, length, ℤ, pos, negsuc, sym, refl, ap, ◌∙◌, subst, inl, inr, arith, eqb→eq, length-append}
+use Rattle.std.proofs.Common.{◌≡◌, ℕ, zero, suc, ◌+◌, ◌*◌, ◌<◌, Bool, true, false, not, ◌&&◌, T, eqb, List, [], ◌∷◌, ◌++◌, length, ℤ, pos, negsuc, sym, refl, ap, ◌∙◌, subst, arith, eqb→eq, length-append}
 use native.Mathlib.Decide.{dec_lt}
-use lib.Dec.{eqb_refl}
 use Rattle.grammar.specs.declared.table.Spot.TheVariants.{Descriptions, Node, Reference, Place, Modes, Associated, Nowhere}
 use Rattle.grammar.specs.declared.table.Spot.{Spot}
 use Rattle.grammar.specs.declared.table.Fields.{Fields}
 use Rattle.grammar.specs.declared.table.Fields.TheVariants.{Nothing, Code, Text, Globe, Floor, Count, Radius, Height}
-use Rattle.grammar.specs.Format.{width, layout, twos, fixed, Fit, kind_at}
-use Rattle.grammar.specs.Grammar.{Row, Tail, Parts, none, unknown, named, held, tail_bytes, how_many, bytes_of, said, tell, deeper}
+use Rattle.grammar.specs.Format.{width, layout, twos, fixed, kind_at}
+use Rattle.grammar.specs.Grammar.{Row, Parts, none, unknown, named, held, tail_bytes, how_many, bytes_of, said, tell, deeper}
 use Rattle.grammar.specs.Reading.{is_text}
 use Rattle.grammar.specs.Deciding.{Sound}
 use Rattle.grammar.specs.Sending.{normal, tail_for, spoken_unless, counts, texts_in, fields_size, body_size, full_size}

@@ -1,10 +1,9 @@
 -- A component cut off a slice, by offsets.
 -- Assumes nothing.
-use Rattle.std.proofs.Common.{◌≡◌, ℕ, zero, suc, ◌+◌, ◌-◌, ◌*◌, ◌^◌, ◌<◌, ◌≤◌, Bool, true, false, not, ◌&&◌, T, eqb, ltb, leb, List, [], ◌∷◌, ◌++◌, length, get_or, take, drop, Ok, Err, sym, refl, ap, ◌∙◌, subst, ap₂, arith, length-drop, length-take-le, take_all, drop-drop, ltb-false, ltb-true, le-ltb, lt-ltb, le-leb, leb-false, leb-true}
+use Rattle.std.proofs.Common.{◌≡◌, ℕ, zero, suc, ◌+◌, ◌<◌, ◌≤◌, Bool, true, false, ltb, List, ◌∷◌, length, get_or, take, drop, Ok, Err, sym, refl, ap, ◌∙◌, arith, length-take-le, take_all, drop-drop, ltb-false, ltb-true, le-ltb, lt-ltb}
 use lib.Seq.{slice, slice_empty, slice-cons, length-slice}
-use borrow.Author.Tests.{lt-leb}
 use Rattle.grammar.specs.declared.fault.ReadFault.{ReadFault}
-use Rattle.grammar.specs.Reading.{Read, if, then, cut, Piece, number, value}
+use Rattle.grammar.specs.Reading.{Read, if, then, cut, Piece, number}
 use Rattle.grammar.specs.Offsets.{ends, value as value_at}
 use Rattle.grammar.proofs.Cut.{by_cases}
 

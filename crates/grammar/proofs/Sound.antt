@@ -1,20 +1,19 @@
 -- What the reader accepts is a legal container, and the rows that it gives are those that the container tells.
 -- Assumes nothing.
-use Rattle.std.proofs.Common.{◌≡◌, ℕ, zero, suc, ◌+◌, ◌-◌, ◌*◌, ◌/◌, ◌%◌, ◌^◌, ◌<◌, ◌≤◌, Bool, true, false, not, ◌&&◌, ◌||◌, T, eqb, ltb, leb, List, [], ◌∷◌, ◌++◌, length, get_or, take, drop, ℤ, pos, negsuc, Some, None, Ok, Err, sym, refl, ap, ◌∙◌, subst, ap₂, append_assoc, arith, length-append, take-append-drop, length-take-le, ltb-false, ltb-true, eqb-true}
+use Rattle.std.proofs.Common.{◌≡◌, ℕ, zero, suc, ◌+◌, ◌-◌, ◌^◌, ◌<◌, ◌≤◌, Bool, true, false, not, ◌&&◌, eqb, ltb, List, [], ◌∷◌, ◌++◌, length, get_or, take, drop, ℤ, None, Ok, sym, refl, ap, ◌∙◌, subst, ap₂, arith, take-append-drop, length-take-le, ltb-false, eqb-true}
 use borrow.Author.Tests.{eqb-false}
 use Rattle.grammar.specs.declared.table.Spot.TheVariants.{Descriptions, Node, Reference, Place, Modes, Associated, Nowhere}
 use Rattle.grammar.specs.declared.table.Spot.{Spot}
 use Rattle.grammar.specs.declared.table.Fields.{Fields}
 use Rattle.grammar.specs.declared.table.Fields.TheVariants.{Nothing, Code, Text, Globe, Floor, Count, Radius, Height}
 use Rattle.grammar.specs.Format.{width, layout, kind_at, big, header, fixed}
-use Rattle.grammar.specs.Grammar.{Row, Byte, Bytes, Tail, TailLegal, tail_bytes, said, Parts, none, unknown, named, held, bytes_of, how_many, tell, PartsLegal, PassedOver, deeper, Tops, no_more, passed, described, tops_bytes, TopsLegal, tops_tell, Container, sent_as, Good, told, Tells}
-use Rattle.grammar.specs.declared.fault.ReadFault.{ReadFault}
-use Rattle.grammar.specs.Reading.{Read, if, then, cut, Piece, Spoken, or_else, tail, Reader, name, component, of_kind, parts, tops, reading, counted, sealed, miscounted, empty, closed, is_text, is_count, least, off_globe, first_number, second_number}
+use Rattle.grammar.specs.Grammar.{Row, Byte, Bytes, tail_bytes, Parts, none, unknown, named, held, bytes_of, how_many, tell, PartsLegal, PassedOver, deeper, Tops, no_more, passed, described, tops_bytes, TopsLegal, tops_tell, Tells}
+use Rattle.grammar.specs.Reading.{cut, tail, Reader, name, component, of_kind, parts, tops, reading, counted, sealed, miscounted, closed, is_text, least, off_globe, first_number, second_number}
 use Rattle.grammar.proofs.Numbers.{bytes_take, bytes_drop}
-use Rattle.grammar.proofs.Cut.{err_ok, ok_ok, by_test, by_then, by_cases, Cuts, cut_sound}
-use Rattle.grammar.proofs.Tails.{Tailed, tail_sound}
+use Rattle.grammar.proofs.Cut.{err_ok, ok_ok, by_test, by_then, by_cases, cut_sound}
+use Rattle.grammar.proofs.Tails.{tail_sound}
 use Rattle.grammar.proofs.Lines.{kind_id, counts_agree}
-use Rattle.grammar.proofs.Fixed.{Writes, fields_written}
+use Rattle.grammar.proofs.Fixed.{fields_written}
 
 -- a legal list of parts that these bytes are, and the rows that it tells
 pub record Found (d : ℕ) (s : Spot) (n c depth : ℕ) (bs : List ℕ) (rows : List Row) : Type 0 where

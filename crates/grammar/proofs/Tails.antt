@@ -1,11 +1,10 @@
 -- What follows a text: the reader accepts exactly the legal tails, and hears what they say.
 -- Assumes nothing.
-use Rattle.std.proofs.Common.{◌≡◌, ℕ, zero, suc, ◌+◌, ◌-◌, ◌*◌, ◌/◌, ◌%◌, ◌^◌, ◌<◌, ◌≤◌, Bool, true, false, not, ◌&&◌, T, eqb, ltb, leb, List, [], ◌∷◌, ◌++◌, length, get_or, take, drop, Some, None, Ok, Err, sym, refl, ap, ◌∙◌, subst, ap₂, append_assoc, mod-eq_of_lt, div-one, arith, length-append, ltb-false, ltb-true, le-ltb, lt-ltb, eq-eqb, ne_eqb, eqb-true}
+use Rattle.std.proofs.Common.{◌≡◌, ℕ, zero, suc, ◌+◌, ◌<◌, true, not, eqb, List, [], ◌∷◌, ◌++◌, length, get_or, Some, Ok, sym, refl, ap, ◌∙◌, mod-eq_of_lt, div-one, arith, length-append, ne_eqb, eqb-true}
 use borrow.Author.Tests.{eqb-false, not-false}
 use Rattle.grammar.specs.Format.{big}
-use Rattle.grammar.specs.Grammar.{Byte, Bytes, Tail, bare, other, spoken, tail_bytes, TailLegal, said}
-use Rattle.grammar.specs.declared.fault.ReadFault.{ReadFault}
-use Rattle.grammar.specs.Reading.{Read, if, then, cut, Piece, number, Spoken, heard, or_else, tail}
+use Rattle.grammar.specs.Grammar.{Bytes, Tail, bare, other, spoken, tail_bytes, TailLegal, said}
+use Rattle.grammar.specs.Reading.{cut, Piece, Spoken, heard, or_else, tail}
 use Rattle.grammar.proofs.Cut.{err_ok, ok_ok, by_test, pass, by_then, by_cases, go_then, Cuts, cut_sound, cut_complete}
 
 pub big_one : (x : ℕ) → x < 256 → big 1 x ≡ x ∷ []

@@ -10,7 +10,7 @@ use Rattle.grammar.specs.declared.table.Layout.{Layout}
 use Rattle.grammar.specs.Format.{width, layout, kind_at, table, blank}
 use Rattle.grammar.specs.Grammar.{Row, deeper}
 use Rattle.grammar.specs.declared.fault.ReadFault.{ReadFault}
-use Rattle.grammar.specs.Reading.{Read, if, then, Spoken, heard, or_else, is_text, is_count, closed, counted}
+use Rattle.grammar.specs.Reading.{Read, if, Spoken, heard, or_else, is_text, is_count, closed, counted}
 use Rattle.grammar.specs.Offsets as O
 use Rattle.grammar.specs.Walk.{Frame, most_frames, extra, room, read_or, language_at, row_at, met, turn, walk, rows_from, Stretch, no_stretch, seek, data_from}
 use Rattle.grammar.specs.Theorems.{StandsAt, WalkTells}

@@ -1,15 +1,12 @@
 -- What checking counts: the rows of the reading by offset, part by part, with turns enough for the bytes.
-use Rattle.std.specs.Prelude.{◌≡◌, ℕ, zero, suc, ◌+◌, ◌-◌, ◌*◌, ◌<◌, ◌≤◌, Bool, true, false, not, ◌&&◌, ◌||◌, T, List, [], ◌∷◌, ◌++◌, length, Some, None, Ok, Err, Option, Result, ◌==◌, nat_lt, slice_index}
-use Rattle.grammar.specs.declared.fault.ReadFault.{ReadFault}
-use Rattle.grammar.specs.declared.fault.ReadFault.TheVariants.{PastEnd, WrongSize, OffGlobe}
+use Rattle.std.specs.Prelude.{ℕ, suc, ◌+◌, ◌-◌, Bool, true, false, not, ◌&&◌, List, length, Some, None, Ok, Err, Option, ◌==◌, nat_lt, slice_index}
+use Rattle.grammar.specs.declared.fault.ReadFault.TheVariants.{WrongSize, OffGlobe}
 use Rattle.grammar.specs.declared.table.Spot.{Spot}
 use Rattle.grammar.specs.declared.table.Spot.TheVariants.{Descriptions, Node, Reference, Place, Modes, Associated, Nowhere}
 use Rattle.grammar.specs.declared.table.Fields.{Fields}
-use Rattle.grammar.specs.declared.table.Fields.TheVariants.{Nothing, Code, Text, Globe, Floor, Count, Radius, Height}
 use Rattle.grammar.specs.declared.table.Layout.{Layout}
-use Rattle.grammar.specs.Format.{width, layout, kind_at}
-use Rattle.grammar.specs.Grammar.{Row, Rows, deeper}
-use Rattle.grammar.specs.Reading.{Read, then, if, Spoken, is_text, is_count, closed}
+use Rattle.grammar.specs.Grammar.{Rows}
+use Rattle.grammar.specs.Reading.{Read, then, if, Spoken, is_text}
 use Rattle.grammar.specs.Offsets as O
 
 -- how many rows were read

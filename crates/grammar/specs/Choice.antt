@@ -1,10 +1,10 @@
 -- The choice of the default language, by what one look over the rows finds.
-use Rattle.std.specs.Prelude.{◌≡◌, ℕ, zero, suc, ◌+◌, ◌-◌, ◌*◌, ◌^◌, ◌<◌, ◌≤◌, Bool, true, false, not, ◌&&◌, ◌||◌, List, [], ◌∷◌, length, Some, None, Option, ◌==◌, nat_le}
+use Rattle.std.specs.Prelude.{◌≡◌, ℕ, suc, ◌+◌, ◌-◌, ◌*◌, ◌^◌, ◌<◌, Bool, true, false, not, ◌&&◌, ◌||◌, List, [], ◌∷◌, length, ◌==◌, nat_le}
 use Rattle.grammar.specs.Format.{layout, width, fixed_bytes}
 use Rattle.grammar.specs.Grammar.{Row, Byte, Bytes}
 use Rattle.grammar.specs.Reading.{if, is_text}
 use Rattle.grammar.specs.Admits.{admits, top_level}
-use Rattle.grammar.specs.Sending.{texts_in, frame, most, stands, score}
+use Rattle.grammar.specs.Sending.{texts_in, frame, stands}
 
 -- a row of text that fits its component's length in no way
 abbrev pub over : Row → Bool

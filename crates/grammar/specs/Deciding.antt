@@ -1,5 +1,5 @@
 -- What rows must be to have a tree: their shape, the places of their kinds, and their numbers; and that all of it is decided.
-use Rattle.std.specs.Prelude.{◌≡◌, ℕ, zero, suc, ◌+◌, ◌^◌, ◌<◌, ◌≤◌, Bool, true, false, T, List, [], ◌∷◌, ◌++◌, length, ℤ, pos, negsuc, ◌==◌, nat_le, refl}
+use Rattle.std.specs.Prelude.{◌≡◌, ℕ, suc, ◌+◌, ◌^◌, ◌<◌, ◌≤◌, Bool, true, false, T, List, [], ◌∷◌, length, ℤ, pos, negsuc, ◌==◌, nat_le, refl}
 use Rattle.std.proofs.Common.{sym, ap, subst, leb→le, le→leb, eqb→eq}
 use Rattle.std.proofs.Math.Dec.{eqb_refl}
 use Rattle.grammar.specs.declared.table.Spot.{Spot}
@@ -7,7 +7,7 @@ use Rattle.grammar.specs.declared.table.Fields.{Fields}
 use Rattle.grammar.specs.declared.table.Fields.TheVariants.{Nothing, Code, Text, Globe, Floor, Count, Radius, Height}
 use Rattle.grammar.specs.Format.{width, layout, Fit, kind_at, UpTo, Between}
 use Rattle.grammar.specs.Reading.{is_text}
-use Rattle.grammar.specs.Grammar.{Row, Tail, Parts, none, unknown, named, held, how_many, Byte, Bytes, deeper}
+use Rattle.grammar.specs.Grammar.{Row, Parts, none, unknown, named, held, how_many, Byte, Bytes, deeper}
 
 abbrev le_on : (m n : ℕ) (b : Bool) → nat_le m n ≡ b → Dec (m ≤ n)
 le_on m n true e = yes (leb→le m n (subst T (sym e) tt))

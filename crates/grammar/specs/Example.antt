@@ -1,9 +1,8 @@
-use Rattle.std.specs.Prelude.{◌≡◌, ℕ, List, [], ◌∷◌, ◌++◌, ℤ, pos, negsuc, Ok, Err}
+use Rattle.std.specs.Prelude.{◌≡◌, List, [], ◌∷◌, pos, Ok, Err}
 use Rattle.grammar.specs.declared.table.Spot.TheVariants.{Descriptions}
-use Rattle.grammar.specs.declared.table.Spot.{Spot}
-use Rattle.grammar.specs.declared.fault.ReadFault.TheVariants.{TooLong, Empty, PastEnd, WrongSize, SecondDescriptions, SecondLanguage, OffGlobe, Miscounted, TooDeep}
-use Rattle.grammar.specs.Grammar.{Row, Parts, Tail, bare, none, named, held, bytes_of}
-use Rattle.grammar.specs.Reading.{Read, reading}
+use Rattle.grammar.specs.declared.fault.ReadFault.TheVariants.{PastEnd, WrongSize, SecondDescriptions, SecondLanguage, OffGlobe, Miscounted}
+use Rattle.grammar.specs.Grammar.{Row, bare, none, named, held, bytes_of}
+use Rattle.grammar.specs.Reading.{reading}
 
 abbrev one : List Row
 one = record { depth = 0; kind = 1; a = pos 1; b = pos 0; language = 0; text = [] } ∷ record { depth = 1; kind = 2; a = pos 0; b = pos 0; language = 30; text = 65 ∷ [] } ∷ []

@@ -1,12 +1,11 @@
 -- The bytes of rows, row by row: a row's component up to its parts needs only the rows that follow it.
-use Rattle.std.specs.Prelude.{◌≡◌, ℕ, suc, ◌+◌, ◌<◌, Bool, true, false, not, ◌&&◌, List, [], ◌∷◌, ◌++◌, length, ◌==◌, nat_lt}
+use Rattle.std.specs.Prelude.{◌≡◌, ℕ, suc, ◌+◌, List, [], ◌∷◌, ◌++◌, length, ◌==◌, nat_lt}
 use Rattle.grammar.specs.declared.table.Spot.TheVariants.{Descriptions}
-use Rattle.grammar.specs.declared.table.Layout.{Layout}
-use Rattle.grammar.specs.Format.{layout, big, fixed, fixed_bytes}
-use Rattle.grammar.specs.Grammar.{Row, bytes_of, sent_as}
+use Rattle.grammar.specs.Format.{layout, big, fixed}
+use Rattle.grammar.specs.Grammar.{Row, sent_as}
 use Rattle.grammar.specs.Reading.{if, is_text}
 use Rattle.grammar.specs.Deciding.{Shaped, Sound}
-use Rattle.grammar.specs.Sending.{gather, normal, candidate}
+use Rattle.grammar.specs.Sending.{gather, candidate}
 
 -- the language part of a text, where its language is not the default
 abbrev pub language_part : ℕ → ℕ → List ℕ

@@ -1,12 +1,9 @@
 -- What a legal container is made of, the bytes it is sent as, and the rows it tells.
-use Rattle.std.specs.Prelude.{◌≡◌, ℕ, zero, suc, ◌+◌, ◌-◌, ◌*◌, ◌/◌, ◌%◌, ◌^◌, ◌<◌, ◌≤◌, Bool, true, false, not, ◌&&◌, ◌||◌, ◌⊎◌, List, [], ◌∷◌, ◌++◌, length, ℤ, pos, negsuc, ◌≢◌, slice_index}
+use Rattle.std.specs.Prelude.{◌≡◌, ℕ, suc, ◌^◌, ◌<◌, ◌≤◌, Bool, true, false, ◌⊎◌, List, [], ◌∷◌, ◌++◌, length, ℤ, pos, ◌≢◌, slice_index}
 use Rattle.grammar.specs.declared.table.Spot.TheVariants.{Descriptions, Node, Reference, Place, Modes, Associated, Nowhere}
 use Rattle.grammar.specs.declared.table.Spot.{Spot}
-use Rattle.grammar.specs.declared.table.Fields.{Fields}
-use Rattle.grammar.specs.declared.table.Fields.TheVariants.{Nothing, Code, Text, Globe, Floor, Count, Radius, Height}
-use Rattle.grammar.specs.declared.table.Layout.{Layout}
+use Rattle.grammar.specs.declared.table.Fields.TheVariants.{Text}
 use Rattle.grammar.specs.Format.{width, layout, header, fixed, big, Fit, kind_at}
-use Rattle.std.proofs.Common.{inl, inr}
 
 pub record Row : Type 0 where
   pub depth : ℕ

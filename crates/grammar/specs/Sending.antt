@@ -1,36 +1,14 @@
 -- The bytes that rows are sent as: the tree that they are the rows of, with no unknown component, and a language part exactly where a text's language
 -- is not the default; under the default that most texts are in, of those under which each
 -- text fits the width of its component's length and the whole its limit, the lowest among equals.
-use Rattle.std.specs.Prelude.{◌≡◌, ℕ, zero, suc, ◌+◌, ◌*◌, ◌<◌, ◌≤◌, Bool, true, false, List, [], ◌∷◌, ◌++◌, length, Some, None, Ok, Err, Option, Result, ◌==◌, nat_lt}
+use Rattle.std.specs.Prelude.{◌≡◌, ℕ, zero, suc, ◌+◌, ◌*◌, ◌<◌, ◌≤◌, Bool, true, false, List, [], ◌∷◌, length, Some, None, Ok, Err, Option, Result, ◌==◌, nat_lt}
 use Rattle.grammar.specs.declared.fault.SendFault.{SendFault}
 use Rattle.grammar.specs.declared.fault.SendFault.TheVariants.{NoContainer, NoRoom}
 use Rattle.grammar.specs.declared.table.Spot.TheVariants.{Descriptions}
 use Rattle.grammar.specs.declared.table.Fields.{Fields}
 use Rattle.grammar.specs.declared.table.Fields.TheVariants.{Nothing, Code, Text, Globe, Floor, Count, Radius, Height}
 use Rattle.grammar.specs.Format.{layout, width}
-use Rattle.grammar.specs.Grammar.{
-  Row,
-  Tail,
-  bare,
-  other,
-  spoken,
-  Parts,
-  none,
-  unknown,
-  named,
-  held,
-  Tops,
-  no_more,
-  passed,
-  described,
-  Container,
-  said,
-  sent_as,
-  told,
-  Good,
-  Tells,
-  Best,
-}
+use Rattle.grammar.specs.Grammar.{Row, Tail, bare, spoken, Parts, none, unknown, named, held, Tops, no_more, described, Container, said, sent_as, told, Good, Tells, Best}
 use Rattle.grammar.specs.Reading.{is_text, if}
 use Rattle.grammar.specs.Deciding.{Shaped, shaped?, Sound, sound?, RowsFit, rows_fit?, le?, and₂, and₃, and₄}
 

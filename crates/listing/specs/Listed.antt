@@ -54,7 +54,7 @@ abbrev pub no_line : ℕ → ℕ → ℕ → List ℕ
 no_line number place level = codes "NO " ++ (decimal number ++ (codes " " ++ (decimal place ++ (codes " " ++ (decimal level ++ newline)))))
 
 abbrev pub refused : ReadFault → List ℕ
-refused f = no_line (number_of f) (place_of f) (level_of f)
+refused f = codes "NO " ++ (decimal (number_of f) ++ (codes " " ++ (decimal (place_of f) ++ (codes " " ++ (decimal (level_of f) ++ newline)))))
 
 abbrev pub answered : Read Rows → List ℕ
 answered (Ok rows) = listed rows

@@ -70,10 +70,10 @@ module _ (bs : List ℕ) (m : Mark) (f : Frame) (some : 0 < m.held) (is-top : f 
   mark_done h k = sym (opened ∙ rows_done bs (get_or bs 0 0) _ _ m.at h k)
 
   module _ (h : f.end ≤ length bs) (k : m.at < f.end) where
-    mark_past : (e : ReadFault) → O.ends bs (width f.spot) 0 m.at f.end ≡ Err e → rows_at bs m ≡ []
+    pub mark_past : (e : ReadFault) → O.ends bs (width f.spot) 0 m.at f.end ≡ Err e → rows_at bs m ≡ []
     mark_past e q = opened ∙ rows_past bs (get_or bs 0 0) _ _ m.at e h k q
 
-    mark_unknown : (to : ℕ) → O.ends bs (width f.spot) 0 m.at f.end ≡ Ok to → kind_at f.spot (get_or bs m.at 0) ≡ 0
+    pub mark_unknown : (to : ℕ) → O.ends bs (width f.spot) 0 m.at f.end ≡ Ok to → kind_at f.spot (get_or bs m.at 0) ≡ 0
         → rows_at bs (record { at = to; held = m.held; frames = m.frames }) ≡ rows_at bs m
     mark_unknown to q z =
         sym (opened ∙ rows_unknown bs (get_or bs 0 0) _ _ m.at to h k q z ∙ ap (λ (fs : List Holder). rows_from bs (get_or bs 0 0) fs to) (sym top_is))

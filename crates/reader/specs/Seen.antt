@@ -9,9 +9,12 @@ use Rattle.reader.specs.declared.sights.Step.{Step}
 use Rattle.reader.specs.declared.sights.Step.TheVariants.{Row, Pass, End}
 use Rattle.reader.specs.declared.marks.Frame.{Frame}
 use Rattle.reader.specs.declared.marks.Mark.{Mark}
+use Rattle.reader.specs.declared.edge.Reader.{Reader}
+use Rattle.reader.specs.declared.parts.Part.{Part}
 use Rattle.reader.specs.declared.standings.Component.{Component}
 use Rattle.reader.specs.declared.standings.Standing.TheVariants.{Known}
 use Rattle.reader.specs.Marks.{rows_at, left, blank_frame}
+use Rattle.reader.specs.Opened.{Found}
 use Rattle.reader.specs.Stands.{stands_at}
 
 -- the innermost holder of a mark, which ends within the bytes and past the mark's place
@@ -21,6 +24,10 @@ OpenAt bs m f = (0 < m.held) × (f ≡ slice_index_or m.frames (m.held - 1) blan
 -- a known component stands there
 abbrev pub StandingAt : List ℕ → Mark → Frame → Component → Type 0
 StandingAt bs m f c = OpenAt bs m f × (Known c ≡ stands_at bs f.spot m.at f.end)
+
+-- a known component was opened there
+abbrev pub FoundAt : List ℕ → Mark → Frame → Reader → Part → Type 0
+FoundAt bs m f after p = OpenAt bs m f × Found bs f.spot 0 m.at f.end p after
 
 -- the row of a component that was found
 abbrev pub told_row : List ℕ → Sight → Told

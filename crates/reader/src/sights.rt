@@ -4,13 +4,14 @@ ghost use Rattle.std.specs.List.{slice_get};
 ghost use Rattle.grammar.specs.declared.table.Fields.TheVariants.{Text};
 ghost use Rattle.grammar.specs.Grammar.{Bytes};
 ghost use Rattle.grammar.specs.Offsets.{least};
-ghost use Rattle.grammar.specs.Reading.{or_else};
 ghost use Rattle.grammar.specs.Walk.{language_at};
 ghost use Rattle.location.specs.Answers.{seen, laid_over};
-ghost use Rattle.reader.specs.Seen.{Stepped, Sighted, StandingAt, Within, told_row};
+ghost use Rattle.reader.specs.Seen.{Stepped, Sighted, StandingAt, FoundAt, Within, told_row};
 
+use super::edge::Reader;
 use super::marks::{Frame, MOST_HOLDERS, Mark};
-use super::standings::{Component, Standing, language_in, look_at};
+use super::parts::{Part, open_part};
+use super::standings::{Component, Standing, keep, language_in};
 use fields::numbers;
 use grammar::layout_of;
 use location::Row;
@@ -69,6 +70,18 @@ fn enter(bytes: &[u8], mark: Mark, frame: Frame, component: Component) -> Step
     })
 }
 
+// The known component `part`, at whose data the reader stands, as a row.
+fn look(bytes: &[u8], mark: Mark, frame: Frame, reader: &Reader, part: Part) -> Step
+    requires found { FoundAt bytes.now mark frame reader.now part }
+    ensures { Stepped bytes.now mark result }
+{
+    match keep(bytes, reader, part) {
+        Standing::Known(component) => enter(bytes, mark, frame, component),
+        Standing::Unknown(stop) => Step::Pass(mark.moved(stop)),
+        Standing::Unread => Step::End,
+    }
+}
+
 // What is found at a mark.
 fn take_step(bytes: &[u8], mark: Mark) -> Step
     ensures { Stepped bytes.now mark result }
@@ -83,10 +96,16 @@ fn take_step(bytes: &[u8], mark: Mark) -> Step
     if frame.end <= mark.at {
         return Step::Pass(mark.popped());
     }
-    match look_at(bytes, frame.spot, mark.at, frame.end) {
-        Standing::Known(component) => enter(bytes, mark, frame, component),
-        Standing::Unknown(stop) => Step::Pass(mark.moved(stop)),
-        Standing::Unread => Step::End,
+    let mut reader = Reader {
+        at: mark.at,
+        end: frame.end,
+    };
+    let Ok(found) = open_part(bytes, &mut reader, frame.spot, 0) else {
+        return Step::End;
+    };
+    match found {
+        Some(part) => look(bytes, mark, frame, &reader, part),
+        None => Step::Pass(mark.moved(reader.at)),
     }
 }
 

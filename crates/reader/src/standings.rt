@@ -28,7 +28,7 @@ pub enum Standing {
 }
 
 // The component that was opened, at whose data the reader stands.
-fn keep(bytes: &[u8], reader: &Reader, part: Part) -> Standing
+pub(crate) fn keep(bytes: &[u8], reader: &Reader, part: Part) -> Standing
     requires order { reader.now.at ≤ part.stop }
     requires within { part.stop ≤ length bytes.now }
     ensures { result ≡ known_at bytes.now part.kind reader.now.at part.stop }

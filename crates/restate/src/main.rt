@@ -2,27 +2,31 @@
 #![tactic(auto)]
 
 use anyhow::anyhow;
-use listing::{list_column, list_restated, read_hex};
+use listing::{list_column, list_container, list_restated, read_hex};
 use pile::{Layer, Order};
 use std::env;
 use std::io::Read;
 
-const HELP: &str = "Usage: restate [LAYER]... < CONTAINER
+const HELP: &str = "Usage: restate < CONTAINER
+       restate --send [LAYER]... < CONTAINER
        restate --hex [LAYER]... < SHEET
 
 Reads the bytes of one container from standard input to the end, and prints what they are.
 
-A legal container: a line 'ROWS n', a line for each of its n rows,
+A legal container: a line 'ROWS n', and a line for each of its n rows,
     DEPTH KIND A B LANGUAGE TEXT
-with the text's bytes in hexadecimal, or '-' where it has none; and a line
-    SEND BYTES
-with the one container that stands for these rows: of all that tell them the
-shortest, and among the shortest the one with the lowest default language.
+with the text's bytes in hexadecimal, or '-' where it has none.
 Any other bytes: a line 'NO NUMBER PLACE LEVEL' with the first fault, the offset
 of its component and how many components hold that one.
 
-Layers leave rows out before the rest is printed and sent. At most four, put on in
-the order given:
+    --send        prints one more line after the rows,
+                      SEND BYTES
+                  with the one container that stands for these rows: of all that tell
+                  them the shortest, and among the shortest the one with the lowest
+                  default language
+
+Layers leave rows out before the rest is printed and sent, with or without --send. At
+most four, put on in the order given:
     --language L  leaves out the names in other languages than L
     --cut N       leaves out associated modes whose nodes would be past N levels,
                   with all that they hold
@@ -45,6 +49,7 @@ hexadecimal.
 struct Task {
     help: bool,
     sheet: bool,
+    send: bool,
     layers: Vec<Layer>,
 }
 
@@ -70,10 +75,11 @@ fn take_word(rt: &HostRuntime, task: &mut Task, word: &str) -> anyhow::Result<Wa
     match word {
         "--help" | "-h" => task.help = true,
         "--hex" => task.sheet = true,
+        "--send" => task.send = true,
         "--language" => return Ok(Waiting::Language),
         "--cut" => return Ok(Waiting::Cut),
         other => return Err(anyhow!(format!(in rt.alloc();
-            "unknown argument '{other}', try --help"
+            "unknown argument {other}, try --help"
         )?)),
     }
     Ok(Waiting::Nothing)
@@ -103,6 +109,7 @@ fn asked(rt: &HostRuntime) -> anyhow::Result<Task> {
     let mut task = Task {
         help: false,
         sheet: false,
+        send: false,
         layers: Vec::new(rt.alloc()),
     };
     let mut waiting = Waiting::Nothing;
@@ -114,6 +121,15 @@ fn asked(rt: &HostRuntime) -> anyhow::Result<Task> {
         Waiting::Language => Err(anyhow!("--language takes a number")),
         Waiting::Cut => Err(anyhow!("--cut takes a number")),
     }
+}
+
+fn list_input(rt: &HostRuntime) -> anyhow::Result<()> {
+    let heap = rt.alloc();
+    let mut bytes = Vec::new(heap);
+    rt.stdin().read_to_end(&mut bytes)?;
+    let listing = list_container(heap, bytes.as_slice())?;
+    print!(rt; "{listing}")?;
+    Ok(())
 }
 
 fn restate_input(rt: &HostRuntime, order: Order) -> anyhow::Result<()> {
@@ -173,9 +189,12 @@ fn run(rt: &HostRuntime) -> anyhow::Result<()> {
         return Err(anyhow!("more than four layers"));
     };
     if task.sheet {
-        restate_sheet(rt, order)
-    } else {
+        return restate_sheet(rt, order);
+    }
+    if task.send || !task.layers.is_empty() {
         restate_input(rt, order)
+    } else {
+        list_input(rt)
     }
 }
 

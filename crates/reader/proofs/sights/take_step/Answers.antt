@@ -1,8 +1,7 @@
 use Rattle.std.proofs.Common.{◌≡◌, ℕ, ◌-◌, ◌<◌, ◌≤◌, length, sym, refl, ap, ◌∙◌, subst, arith}
-use Rattle.reader.specs.declared.standings.Standing.TheVariants.{Unknown}
 use Rattle.reader.specs.declared.marks.Mark.{Mark}
 use Rattle.reader.specs.Marks.{rows_at, left}
-use Rattle.reader.proofs.Sighted.{mark_out, mark_forged, mark_done, after, rows_standing, Kept, kept}
+use Rattle.reader.proofs.Sighted.{mark_out, mark_forged, mark_done, mark_past, mark_unknown}
 use Rattle.reader.proofs.sights.take_step.Goals as goal
 
 pub returns-then-mark-eq0 : goal.returns-then-mark-eq0
@@ -18,19 +17,15 @@ returns-then-frame-mark c = (
   subst (λ (m : Mark). left c.args.bytes.now m < left c.args.bytes.now c.args.mark) (sym c.popped.ensures) (omega arith),
 )
 
-pub returns-in-Unknown : goal.returns-in-Unknown
-returns-in-Unknown c =
-    let bs = c.args.bytes.now in
-    let m = c.args.mark in
-    let f = c.top-frame.result in
-    let e = c.in-Unknown.ensures in
-    let w = subst (Kept bs m.at) (sym e) (kept bs f.spot m.at f.end (omega arith) (omega arith)) in (
-      ap (rows_at bs) c.moved.ensures ∙ sym (rows_standing bs m f (omega arith) c.top-frame.ensures (omega arith) (omega arith) ∙ ap (after bs m) (sym e)),
-      subst (λ (n : Mark). left bs n < left bs m) (sym c.moved.ensures) (omega (arith, w.0, w.1)),
+pub returns-in-None : goal.returns-in-None
+returns-in-None c =
+    let f = rw c.in-None.is at c.in-Ok.ensures.found in
+    let l : c.open_part.new.reader.at ≤ length c.args.bytes.now = omega (arith, f.3) in (
+      ap (rows_at c.args.bytes.now) c.moved.ensures
+          ∙ mark_unknown c.args.bytes.now c.args.mark c.top-frame.result (omega arith) c.top-frame.ensures (omega arith) (omega arith) _ f.0 f.1,
+      subst (λ (m : Mark). left c.args.bytes.now m < left c.args.bytes.now c.args.mark) (sym c.moved.ensures) (omega (arith, f.2)),
     )
 
-pub returns-in-Unread : goal.returns-in-Unread
-returns-in-Unread c =
-    let bs = c.args.bytes.now in
-    let m = c.args.mark in
-    rows_standing bs m c.top-frame.result (omega arith) c.top-frame.ensures (omega arith) (omega arith) ∙ ap (after bs m) (sym c.in-Unread.ensures)
+pub returns-in_default : goal.returns-in_default
+returns-in_default c =
+    mark_past c.args.bytes.now c.args.mark c.top-frame.result (omega arith) c.top-frame.ensures (omega arith) (omega arith) _ c.in_default.ensures.found
