@@ -1,10 +1,8 @@
 #!/bin/sh
 # A draft cannot be sent, a fair copy takes no rows, and neither can be used once it was given away: such programs do not
 # build. Tries one function that builds, and others that have one line more each, which the compiler must refuse by name.
-# Over the target/ that `rt ci` or `rt check` left no crate of the repository is proved again.
 set -e
 cd "$(dirname "$0")/.."
-home=$(pwd -P)
 work=$(mktemp -d)
 trap 'rm -rf "$work"' EXIT
 trap 'exit 1' HUP INT TERM
@@ -14,22 +12,27 @@ fail() {
     exit 1
 }
 
-# A repository with the same crates and what is known of them: links, since the libraries are large.
-rt check sheet >"$work/log" 2>&1 || { cat "$work/log"; fail 'the crate sheet is not proved'; }
-cp -R crates crates.txt "$work"
-mkdir -p "$work/target/rlib"
-cp -R target/stamp "$work/target"
-for library in target/rlib/*.rlib; do ln -s "$home/$library" "$work/$library"; done
+# A repository with the sheet and the crates below it, without what was built of them: the check knows them again.
+mkdir "$work/crates"
+for crate in grammar location fields reader sender sheet; do
+    grep "^$crate:" crates.txt >>"$work/crates.txt"
+    mkdir "$work/crates/$crate"
+    cp -R "crates/$crate/src" "$work/crates/$crate"
+    for folder in specs proofs; do
+        [ ! -d "crates/$crate/$folder" ] || cp -R "crates/$crate/$folder" "$work/crates/$crate"
+    done
+done
 
 # start CRATE: a crate of functions that use a sheet.
 start() {
     mkdir -p "$work/crates/$1/src"
     echo "$1: location sender sheet" >>"$work/crates.txt"
     cat >"$work/crates/$1/src/lib.rt" <<'END'
+// Functions that use a sheet.
+#![tactic(auto)]
+
 use sender::send;
-use sheet::Draft;
-use sheet::Fair;
-use sheet::FairLocation;
+use sheet::{Draft, Fair};
 END
 }
 
@@ -86,12 +89,14 @@ refuse misused uses_after_finish borrow-e0382 finished 'let _ = draft.close();'
 refuse misused uses_after_reopen borrow-e0382 reopened 'let _ = send(&fair, &mut out);'
 refuse misused uses_after_give_up borrow-e0382 'given up' 'let _ = draft.close();'
 
-(cd "$work" && rt check builds mistyped misused) >"$work/log" 2>&1 || true
-grep -q '^rt: builds proved' "$work/log" || { cat "$work/log"; fail 'the function that uses a sheet as it may does not build'; }
+for crate in builds mistyped misused; do
+    (cd "$work/crates/$crate" && rt check) >"$work/$crate.say" 2>&1 </dev/null || true
+done
+grep -q '^fn builds::builds: proved' "$work/builds.say" || { cat "$work/builds.say"; fail 'the function that uses a sheet as it may does not build'; }
 
 # The function and the name of each error, by the line that it has.
 for crate in mistyped misused; do
-    sed -n 's/^[^ ]*\/lib\.rt:\([0-9]*\):[0-9]*: error\[\([^]]*\)\].*/\1 \2/p' "$work/target/log/$crate.say" |
+    sed -n 's/^src\/lib\.rt:\([0-9]*\):[0-9]*: error\[\([^]]*\)\].*/\1 \2/p' "$work/$crate.say" |
         awk -v crate="$crate" '
             FNR == NR { if ($2 == "fn") { name = $3; sub(/\(.*/, "", name) }; at[FNR] = name; next }
             { print crate, at[$1], $2 }' "$work/crates/$crate/src/lib.rt" -

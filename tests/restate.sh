@@ -3,6 +3,7 @@
 set -e
 cd "$(dirname "$0")/.."
 program=target/bin/restate
+sh tools/build.sh restate
 
 # expect STATUS ANSWER INPUT ARGUMENT..
 expect() {
@@ -24,6 +25,16 @@ trap 'rm -f "$sheet"' EXIT
 
 two=examples/two-languages.bin
 nested=examples/nodes-in-a-node.bin
+expect 0 'ROWS 3
+0 1 1 0 0 -
+1 2 0 0 30 41
+1 2 0 0 40 42' $two
+expect 0 'ROWS 3
+0 1 1 0 0 -
+1 2 0 0 30 41
+1 2 0 0 40 42
+SEND 1E01001102000E0100000201410000050142000128' $two --send
+expect 0 'NO 7 8 2' examples/off-globe.bin --send
 expect 0 'ROWS 2
 0 1 1 0 0 -
 1 2 0 0 40 42
@@ -44,7 +55,7 @@ expect 0 'NO 2 0 0' /dev/null
 expect 0 'NO 7 8 2' examples/off-globe.bin --cut 0
 expect 1 "Error: \"--language takes a number from 0 to 255, not '256'\"" $two --language 256
 expect 1 'Error: "--cut takes a number"' $two --cut
-expect 1 "Error: \"unknown argument '--depth', try --help\"" $two --depth
+expect 1 "Error: \"unknown argument --depth, try --help\"" $two --depth
 expect 1 'Error: "more than four layers"' $two --cut 1 --cut 1 --cut 1 --cut 1 --cut 1
 
 cat >"$sheet" <<'SHEET'

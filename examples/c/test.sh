@@ -2,8 +2,7 @@
 # Builds the static library and the C examples, and compares what they answer with what they should.
 set -e
 cd "$(dirname "$0")/../.."
-mkdir -p target
-rt staticlib tpegloc >target/staticlib.log 2>&1 || { cat target/staticlib.log; exit 1; }
+sh tools/build.sh tpegloc
 for name in check restate room; do
     cc -std=c99 -Wall -Wextra -Werror -I include "examples/c/$name.c" target/staticlib/libtpegloc.a -o "target/${name}_example"
 done

@@ -1,13 +1,12 @@
 -- Kinds by number, by one computed test over the table.
 -- Assumes nothing.
-use Rattle.std.proofs.Common.{◌≡◌, ℕ, ◌+◌, ◌*◌, ◌<◌, ◌≤◌, Bool, true, false, cond, not, ◌&&◌, ◌||◌, T, eqb, ltb, leb, ◌∷◌, sym, refl, ap, ◌∙◌, ap₂, arith, ltb-false, ltb-true, ne_eqb}
+use Rattle.std.proofs.Common.{◌≡◌, ℕ, ◌+◌, ◌*◌, ◌≤◌, Bool, true, false, cond, not, ◌&&◌, ◌||◌, T, eqb, ltb, leb, sym, refl, ap, ◌∙◌, arith, ltb-false, ltb-true, ne_eqb}
 use Rattle.grammar.specs.declared.table.Layout.{Layout}
 use Rattle.grammar.specs.Format.{layout, blank}
-use Rattle.grammar.specs.Grammar.{Row, Rows}
+use Rattle.grammar.specs.Grammar.{Rows}
 use Rattle.grammar.specs.Reading.{is_text, is_count}
 use Rattle.grammar.proofs.Cut.{by_cases}
 use Rattle.grammar.proofs.Lines.{all_below, below_at, same, same_eq, no_line}
-use Rattle.location.specs.Layers.{one_language, past_levels}
 use Rattle.facts.specs.Kinds.{KindsByNumber}
 
 -- what a test says of a line is what another says of its number, where it is so below 28 and past that neither holds

@@ -1,13 +1,13 @@
 -- The defaults that serve rows, by the long names.
 -- Assumes nothing.
-use Rattle.std.proofs.Common.{◌≡◌, ℕ, ◌+◌, ◌-◌, ◌*◌, ◌^◌, ◌<◌, ◌≤◌, Bool, true, false, ◌||◌, eqb, ◌⊎◌, List, [], ◌∷◌, length, sym, refl, ap, ◌∙◌, subst, inl, inr, arith, eq-eqb, eqb-true}
+use Rattle.std.proofs.Common.{◌≡◌, ℕ, ◌+◌, ◌*◌, ◌^◌, ◌<◌, ◌≤◌, Bool, true, false, eqb, ◌⊎◌, List, [], ◌∷◌, length, sym, refl, ap, ◌∙◌, inl, inr, arith, eqb-true}
 use borrow.Author.Tests.{eqb-false}
 use Rattle.grammar.specs.Format.{layout, width}
 use Rattle.grammar.specs.Grammar.{Row}
 use Rattle.grammar.specs.Reading.{is_text}
 use Rattle.grammar.specs.Deciding.{RowFits, RowsFit, text_frame}
-use Rattle.grammar.specs.Sending.{Stands, texts_in, frame, full_size}
-use Rattle.grammar.specs.Choice.{length_under, base_size, texts}
+use Rattle.grammar.specs.Sending.{texts_in, frame, full_size}
+use Rattle.grammar.specs.Choice.{length_under}
 use Rattle.grammar.proofs.Cut.{by_cases}
 use Rattle.grammar.proofs.Choosing.{texts_in_le, full_is}
 use Rattle.facts.specs.Defaults.{LongNamesIn, OpenByLongNames}

@@ -1,7 +1,7 @@
 -- A worked pair, by what its two computations give.
 -- Assumes nothing.
-use Rattle.std.proofs.Common.{◌≡◌, ℕ, Bool, true, T, List, Some, Ok}
-use Rattle.grammar.specs.Grammar.{Rows, Bytes}
+use Rattle.std.proofs.Common.{◌≡◌, ℕ, T, List, Some, Ok}
+use Rattle.grammar.specs.Grammar.{Rows}
 use Rattle.grammar.specs.Reading.{reading}
 use Rattle.grammar.specs.Deciding.{bytes?}
 use Rattle.grammar.specs.Sending.{sending, is_yes}

@@ -12,7 +12,7 @@ use Rattle.grammar.specs.Offsets as O
 use Rattle.grammar.proofs.Cut.{by_cases}
 use Rattle.grammar.proofs.Slices.{slice_drop, value_slice}
 use Rattle.fields.specs.Shape.{Shape, extent, fitting, unlaid, globe_shape}
-use Rattle.fields.specs.Told.{tells, told_at, numbers_at}
+use Rattle.fields.specs.Told.{told_at, numbers_at}
 use Rattle.fields.specs.Laws.{Faithful}
 
 -- the n bytes at `at`

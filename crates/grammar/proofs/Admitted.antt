@@ -105,7 +105,7 @@ tests_plain false r =
     tests_and (fits (layout r.kind).fields r.a r.b) _ (tests_is _)
     (tests_and (eqb r.language 0) (empty r.text) (tests_eq r.language 0) (tests_empty r.text))
 
--- what `row-stands` tests
+-- what `row_stands` tests
 abbrev RowStands : Bool → Level → Row → ℕ → Type 0
 RowStands b l r n =
     ((0 < r.kind) × (kind_at l.spot (layout r.kind).id ≡ r.kind))

@@ -23,7 +23,7 @@ pub data Call : Type 0 where
   reopen : Call
   send : (room : ℕ) → Call
 
--- What it answers; not-now is the answer to a call that a sheet of its stage does not take, and that is passed over.
+-- What it answers; not_now is the answer to a call that a sheet of its stage does not take, and that is passed over.
 pub data Answer : Type 0 where
   done : Answer
   sent : (bytes : List ℕ) (default : ℕ) → Answer

@@ -1,5 +1,5 @@
 -- What is written of what was sent.
-use Rattle.std.proofs.Common.{◌≡◌, ℕ, ◌-◌, List, length, take, Ok, Err, Result, sym, ap, ◌∙◌}
+use Rattle.std.proofs.Common.{◌≡◌, ℕ, ◌-◌, List, length, take, Ok, Result, sym, ap, ◌∙◌}
 use native.Mathlib.Nat.{sub-zero}
 use Rattle.grammar.specs.declared.fault.SendFault.{SendFault}
 use Rattle.grammar.specs.Grammar.{Rows}

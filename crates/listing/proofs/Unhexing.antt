@@ -1,6 +1,5 @@
 -- Hexadecimal text, character by character.
-use Rattle.std.proofs.Common.{◌≡◌, ℕ, ◌+◌, ◌-◌, ◌*◌, ◌/◌, ◌%◌, ◌<◌, ◌≤◌, Bool, true, false, not, T, eqb, List, [], ◌∷◌, ◌++◌, length, get_or, drop, Some, None, Option, sym, refl, ap, ◌∙◌, ap₂, append_assoc, append-nil, div-add-mod', arith, eqb→eq}
-use Rattle.grammar.specs.Grammar.{Bytes}
+use Rattle.std.proofs.Common.{◌≡◌, ℕ, ◌+◌, ◌*◌, ◌/◌, ◌%◌, ◌<◌, ◌≤◌, Bool, true, false, not, T, eqb, List, [], ◌∷◌, ◌++◌, length, get_or, drop, Some, None, Option, sym, refl, ap, ◌∙◌, ap₂, append_assoc, append-nil, div-add-mod', arith, eqb→eq}
 use Rattle.std.proofs.lemmas.List.{drop_more, drop_all}
 use Rattle.grammar.proofs.Lines.{below_at}
 use Rattle.listing.specs.Listed.{hex_digit, hex, hexes}

@@ -1,5 +1,5 @@
 -- What is left of rows by a layer that is chosen.
-use Rattle.std.specs.Prelude.{◌≡◌, ℕ, ◌<◌, List, [], ◌∷◌, length, Some, None, Option}
+use Rattle.std.specs.Prelude.{◌≡◌, ◌<◌, List, [], ◌∷◌, length, Some, None, Option}
 use Rattle.grammar.specs.Grammar.{Rows}
 use Rattle.location.specs.Layers.{one_language, cut}
 use Rattle.pile.specs.declared.Layer.{Layer}

@@ -1,6 +1,6 @@
 -- A number read byte by byte, the highest first.
 -- Assumes nothing.
-use Rattle.std.proofs.Common.{◌≡◌, ℕ, zero, suc, ◌+◌, ◌-◌, ◌*◌, ◌^◌, ◌<◌, ◌≤◌, List, length, get_or, sym, refl, ap, ◌∙◌, add_assoc, mul_assoc, mul_comm, add-mul, pow-suc, arith}
+use Rattle.std.proofs.Common.{◌≡◌, ℕ, zero, suc, ◌+◌, ◌-◌, ◌*◌, ◌^◌, ◌<◌, List, get_or, sym, ap, ◌∙◌, add_assoc, mul_assoc, mul_comm, add-mul, pow-suc, arith}
 use Rattle.grammar.specs.Offsets.{value}
 
 -- one byte more of a number whose first bytes are n

@@ -1,11 +1,8 @@
 -- The tests of the fixed fields, one by one.
 -- Assumes nothing.
-use Rattle.std.proofs.Common.{◌≡◌, ℕ, suc, ◌+◌, ◌-◌, ◌<◌, ◌≤◌, Bool, true, false, not, ◌&&◌, eqb, ltb, List, length, get_or, ℤ, is_some, Some, None, Ok, Err, Option, sym, refl, ap, ◌∙◌, subst, arith, ltb-false, ltb-true, le-ltb, lt-ltb, eq-eqb, ne_eqb}
-use Rattle.grammar.specs.declared.fault.ReadFault.TheVariants.{WrongSize, OffGlobe}
-use Rattle.grammar.specs.declared.table.Fields.{Fields}
-use Rattle.grammar.specs.declared.table.Layout.{Layout}
+use Rattle.std.proofs.Common.{◌≡◌, ℕ, ◌+◌, ◌<◌, ◌≤◌, Bool, true, false, not, ◌&&◌, eqb, ltb, List, length, ℤ, is_some, Some, None, Ok, Option, sym, refl, ap, ◌∙◌, arith, ltb-false, ltb-true, le-ltb, lt-ltb, eq-eqb, ne_eqb}
 use Rattle.grammar.specs.Format.{layout, fixed_bytes}
-use Rattle.grammar.specs.Reading.{if, is_text}
+use Rattle.grammar.specs.Reading.{is_text}
 use Rattle.grammar.specs.Offsets as O
 use Rattle.grammar.specs.Checks.{room_for, fields_of}
 use Rattle.grammar.proofs.Cut.{by_cases, by_test, ok_ok}

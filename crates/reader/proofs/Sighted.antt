@@ -1,16 +1,16 @@
 -- The rows of a mark, by what stands at its place.
 -- Assumes nothing.
-use Rattle.std.proofs.Common.{◌≡◌, ℕ, zero, suc, ◌+◌, ◌-◌, ◌<◌, ◌≤◌, Bool, true, false, leb, List, [], ◌∷◌, length, get_or, take, drop, pos, Some, None, Ok, Err, sym, refl, ap, ◌∙◌, subst, ap₂, arith, length-drop, length-take, get_or-drop, get_or-take, leb-false, leb-true}
+use Rattle.std.proofs.Common.{◌≡◌, ℕ, zero, suc, ◌+◌, ◌-◌, ◌<◌, ◌≤◌, true, false, leb, List, [], ◌∷◌, length, get_or, take, drop, pos, Some, None, Ok, Err, sym, refl, ap, ◌∙◌, ap₂, arith, length-drop, length-take, get_or-drop, get_or-take, leb-false, leb-true}
 use Rattle.std.specs.List.{slice_get}
 use Rattle.std.proofs.lemmas.Option.{slice_get-get_or, slice_get_past}
 use Rattle.grammar.specs.declared.fault.ReadFault.{ReadFault}
 use Rattle.grammar.specs.Format.{layout, width, kind_at}
-use Rattle.grammar.specs.Grammar.{Row, Rows}
+use Rattle.grammar.specs.Grammar.{Rows}
 use Rattle.grammar.specs.Reading.{Read, Spoken, if, closed, or_else, is_text}
 use Rattle.grammar.specs.Offsets as O
 use Rattle.grammar.specs.declared.table.Fields.TheVariants.{Text}
 use Rattle.grammar.specs.Checks.{tail_of}
-use Rattle.grammar.specs.Walk.{rows_from, row_at, language_at, read_or, most_frames, Frame as Holder}
+use Rattle.grammar.specs.Walk.{rows_from, row_at, language_at, read_or, Frame as Holder}
 use Rattle.grammar.proofs.Walked.{rows_none, rows_forged, rows_done, rows_past, rows_unknown, rows_short, rows_off, rows_leaf, rows_full, rows_holder, language_by, first_way, other_way}
 use Rattle.reader.specs.declared.marks.Frame.{Frame}
 use Rattle.reader.specs.declared.marks.Mark.{Mark}
@@ -20,13 +20,13 @@ use Rattle.grammar.proofs.Sound.{text_of}
 use Rattle.location.specs.Answers.{seen}
 use Rattle.reader.specs.declared.standings.Standing.{Standing}
 use Rattle.reader.specs.declared.standings.Standing.TheVariants.{Known, Unknown, Unread}
-use Rattle.reader.specs.Stands.{known_at, stands_at, language_in}
+use Rattle.reader.specs.Stands.{stands_at, language_in}
 use Rattle.reader.proofs.Stood.{stand_each, known_each, language_here}
 use Rattle.grammar.specs.declared.table.Spot.{Spot}
 use Rattle.grammar.proofs.Cut.{by_cases}
 use Rattle.grammar.proofs.Steps.{ends_within}
 use Rattle.reader.specs.declared.sights.Sight.{Sight}
-use Rattle.reader.specs.Seen.{OpenAt, Within, told_row}
+use Rattle.reader.specs.Seen.{Within, told_row}
 use Rattle.reader.proofs.Stacked.{stack_length}
 
 stack_top : (fs : List Frame) (n : ℕ) → 0 < n

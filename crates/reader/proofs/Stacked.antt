@@ -1,6 +1,6 @@
 -- Holders on a stack.
 -- Assumes nothing.
-use Rattle.std.proofs.Common.{◌≡◌, ℕ, zero, suc, ◌<◌, ◌≤◌, ◌≢◌, List, [], ◌∷◌, length, get_or, set, sym, refl, ap, ◌∙◌, ap₂, arith, get_or-set_other, get_or-set_same}
+use Rattle.std.proofs.Common.{◌≡◌, ℕ, zero, suc, ◌<◌, ◌≤◌, ◌≢◌, List, ◌∷◌, length, set, refl, ap, ap₂, arith, get_or-set_other, get_or-set_same}
 use Rattle.grammar.specs.Walk.{Frame as Holder}
 use Rattle.reader.specs.declared.marks.Frame.{Frame}
 use Rattle.reader.specs.Marks.{blank_frame, stack}

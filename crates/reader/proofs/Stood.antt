@@ -1,6 +1,6 @@
 -- What stands at a place, test by test.
 -- Assumes nothing.
-use Rattle.std.proofs.Common.{◌≡◌, ℕ, suc, ◌+◌, ◌<◌, ◌≤◌, Bool, true, false, eqb, ltb, leb, List, length, get_or, Some, None, Ok, Err, sym, refl, ap, ◌∙◌, subst, arith, ltb-false, ltb-true, le-ltb, lt-ltb, ne_eqb, eqb-true, le-leb}
+use Rattle.std.proofs.Common.{◌≡◌, ℕ, suc, ◌+◌, ◌<◌, ◌≤◌, Bool, true, false, eqb, ltb, leb, List, length, get_or, None, Ok, Err, sym, refl, ap, ◌∙◌, subst, arith, ltb-false, ltb-true, le-ltb, lt-ltb, ne_eqb, eqb-true, le-leb}
 use borrow.Author.Tests.{lt-leb, eqb-false}
 use Rattle.grammar.specs.declared.fault.ReadFault.{ReadFault}
 use Rattle.grammar.specs.declared.table.Spot.{Spot}
@@ -9,10 +9,8 @@ use Rattle.grammar.specs.Reading.{Read, Spoken, if}
 use Rattle.grammar.specs.Offsets as O
 use Rattle.grammar.specs.Checks.{tail_of}
 use Rattle.grammar.specs.Walk.{read_or}
-use Rattle.grammar.proofs.Cut.{by_cases}
 use Rattle.grammar.proofs.Steps.{tail_done}
 use Rattle.grammar.proofs.Walked.{first_way, other_way}
-use Rattle.reader.specs.declared.standings.Component.{Component}
 use Rattle.reader.specs.declared.standings.Standing.{Standing}
 use Rattle.reader.specs.declared.standings.Standing.TheVariants.{Known, Unknown, Unread}
 use Rattle.reader.specs.Stands.{known_at, stands_at, language_in}

@@ -1,11 +1,11 @@
 -- One turn of a loop over a holder's parts: a component that was opened, and the rows counted before it.
 -- Assumes nothing.
-use Rattle.std.proofs.Common.{◌≡◌, ℕ, suc, ◌+◌, ◌-◌, ◌<◌, ◌≤◌, Bool, true, false, List, length, get_or, Some, None, Ok, Err, sym, refl, ap, ◌∙◌, subst, ap₂, arith}
+use Rattle.std.proofs.Common.{◌≡◌, ℕ, ◌+◌, ◌-◌, ◌<◌, ◌≤◌, true, false, List, length, get_or, None, Ok, Err, sym, refl, ap, ◌∙◌, subst, ap₂, arith}
 use Rattle.grammar.specs.declared.fault.ReadFault.{ReadFault}
 use Rattle.grammar.specs.declared.fault.ReadFault.TheVariants.{Miscounted}
 use Rattle.grammar.specs.declared.table.Spot.{Spot}
 use Rattle.grammar.specs.declared.table.Spot.TheVariants.{Node, Associated}
-use Rattle.grammar.specs.Format.{width, layout, kind_at}
+use Rattle.grammar.specs.Format.{width, layout}
 use Rattle.grammar.specs.Reading.{Read, then, is_count, counted, sealed}
 use Rattle.grammar.specs.Offsets.{ends}
 use Rattle.grammar.specs.Checks.{component_of, parts_of, nodes_of, fields_of, plus}

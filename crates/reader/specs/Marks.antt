@@ -1,5 +1,5 @@
 -- The rows from a mark on, by the walk over the container's bytes.
-use Rattle.std.specs.Prelude.{◌≡◌, ℕ, zero, suc, ◌+◌, ◌-◌, ◌<◌, ◌≤◌, List, [], ◌∷◌, length, slice_index, slice_index_or}
+use Rattle.std.specs.Prelude.{ℕ, zero, suc, ◌+◌, ◌-◌, List, [], ◌∷◌, length, slice_index, slice_index_or}
 use Rattle.grammar.specs.declared.table.Spot.TheVariants.{Nowhere}
 use Rattle.grammar.specs.Grammar.{Rows}
 use Rattle.grammar.specs.Walk.{rows_from, Frame as Holder}

@@ -1,5 +1,5 @@
 -- What is found at a mark of a container.
-use Rattle.std.specs.Prelude.{◌≡◌, ℕ, suc, ◌+◌, ◌-◌, ◌<◌, ◌≤◌, false, List, [], ◌∷◌, length, Some, None, Option, slice_index, slice_index_or}
+use Rattle.std.specs.Prelude.{◌≡◌, ℕ, ◌+◌, ◌-◌, ◌<◌, ◌≤◌, false, List, [], ◌∷◌, length, Some, None, Option, slice_index, slice_index_or}
 use Rattle.grammar.specs.Format.{layout}
 use Rattle.grammar.specs.Grammar.{Row as Told}
 use Rattle.grammar.specs.Offsets as O

@@ -6,7 +6,6 @@ use Rattle.grammar.specs.Reading.{Spoken, if}
 use Rattle.grammar.specs.Offsets as O
 use Rattle.grammar.specs.Checks.{tail_of}
 use Rattle.grammar.specs.Walk.{read_or}
-use Rattle.reader.specs.declared.standings.Component.{Component}
 use Rattle.reader.specs.declared.standings.Standing.{Standing}
 use Rattle.reader.specs.declared.standings.Standing.TheVariants.{Known, Unknown, Unread}
 

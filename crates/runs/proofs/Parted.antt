@@ -1,14 +1,12 @@
 -- What is sent into a part of an output.
 -- Assumes nothing.
-use Rattle.std.proofs.Common.{◌≡◌, ℕ, ◌+◌, ◌-◌, ◌≤◌, List, ◌++◌, length, take, drop, Ok, Err, sym, refl, ap, ◌∙◌, ap₂, arith}
+use Rattle.std.proofs.Common.{◌≡◌, ℕ, ◌+◌, ◌≤◌, List, ◌++◌, length, take, drop, Ok, Err, sym, ap, ◌∙◌, ap₂, arith}
 use borrow.Rule.Slice.PartMut.{put_mid, put_same}
 use Rattle.std.proofs.lemmas.List.{append_assoc, take-append-drop, drop-append-le, drop-drop, length-take-le, length-drop}
 use Rattle.grammar.specs.declared.fault.SendFault.{SendFault}
 use Rattle.grammar.specs.Grammar.{Rows, default_of}
-use Rattle.grammar.specs.Reading.{Read}
 use Rattle.grammar.specs.Sending.{sending_into}
 use Rattle.grammar.specs.Sheet.{answer_of_send}
-use Rattle.runs.specs.declared.script.Answer.{Answer}
 use Rattle.runs.specs.declared.script.Answer.TheVariants.{Sent, NotSent}
 use Rattle.runs.specs.Scripts.{shown, put_at}
 

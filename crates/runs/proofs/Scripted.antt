@@ -1,11 +1,10 @@
 -- What a script's run writes down, call by call.
 -- Assumes nothing.
-use Rattle.std.proofs.Common.{◌≡◌, ℕ, zero, suc, ◌+◌, ◌<◌, ◌≤◌, Bool, true, false, ltb, List, [], ◌∷◌, ◌++◌, map, length, Some, None, Ok, Err, Option, sym, refl, ap, ◌∙◌, subst, add-zero, add_assoc, arith, ltb-false, ltb-true}
+use Rattle.std.proofs.Common.{◌≡◌, ℕ, ◌+◌, ltb, List, [], ◌∷◌, ◌++◌, map, length, Some, None, Ok, Err, Option, sym, refl, ap, ◌∙◌, add-zero, add_assoc, ltb-false, ltb-true}
 use Rattle.std.proofs.lemmas.List.{append_assoc, append-nil}
-use Rattle.grammar.specs.declared.fault.SendFault.TheVariants.{NoContainer, NoRoom}
-use Rattle.grammar.specs.Grammar.{Row, Rows, default_of}
-use Rattle.grammar.specs.Reading.{if, reading}
-use Rattle.grammar.specs.Sending.{sending, sending_into, into}
+use Rattle.grammar.specs.Grammar.{Rows}
+use Rattle.grammar.specs.Reading.{reading}
+use Rattle.grammar.specs.Sending.{sending, into}
 use Rattle.grammar.specs.Sheet as S
 use Rattle.grammar.specs.Sheet.{
   load,

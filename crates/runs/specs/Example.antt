@@ -1,26 +1,8 @@
 -- Worked examples of what a sheet answers.
 use Rattle.std.specs.Prelude.{◌≡◌, ℕ, List, [], ◌∷◌, ◌++◌, map, pos, negsuc}
 use Rattle.grammar.specs.declared.fault.ReadFault.TheVariants.{PastEnd}
-use Rattle.grammar.specs.declared.fault.SheetFault.TheVariants.{Reading, NinthNode, Misplaced, Unfit, TooManyRows, TooCostly, NothingOpen}
-use Rattle.grammar.specs.Sheet.{
-  Call,
-  Answer,
-  Entry,
-  load,
-  open_row,
-  number,
-  name,
-  close,
-  clear,
-  finish,
-  reopen,
-  send,
-  done,
-  sent,
-  refused,
-  not_sent,
-  not_now,
-}
+use Rattle.grammar.specs.declared.fault.SheetFault.TheVariants.{Reading, NinthNode, Misplaced, Unfit, TooCostly, NothingOpen}
+use Rattle.grammar.specs.Sheet.{Call, Answer, Entry, load, open_row, number, name, close, clear, finish, reopen, done, refused, not_now}
 use Rattle.runs.specs.Scripts.{entries}
 
 abbrev answer_in : Entry → Answer

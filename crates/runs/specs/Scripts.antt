@@ -1,5 +1,5 @@
 -- A script's run: the log that its calls fix, and what it leaves in the answers and in the output.
-use Rattle.std.specs.Prelude.{◌≡◌, ℕ, ◌+◌, ◌<◌, ◌≤◌, Bool, true, false, ◌&&◌, List, [], ◌∷◌, ◌++◌, map, length, take, drop, nat_le}
+use Rattle.std.specs.Prelude.{◌≡◌, ℕ, ◌+◌, Bool, true, false, ◌&&◌, List, [], ◌∷◌, ◌++◌, map, length, take, drop, nat_le}
 use Rattle.grammar.specs.Grammar.{Rows}
 use Rattle.grammar.specs.Reading.{reading}
 use Rattle.grammar.specs.Sheet as S

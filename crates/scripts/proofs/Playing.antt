@@ -1,13 +1,12 @@
 -- What stands in the output of a script's run, room by room.
 -- Assumes nothing.
 use Rattle.std.proofs.Common.{◌≡◌, ℕ, ◌+◌, ◌<◌, ◌≤◌, Bool, true, false, ◌&&◌, leb, List, [], ◌∷◌, ◌++◌, map, length, get_or, take, drop, sym, refl, ap, ◌∙◌, arith, leb-true}
-use Rattle.std.proofs.lemmas.List.{append-nil, map-append, length-append, length-take-le, length-drop, length-map, take-take, take_at, take_all, drop_at, drop_all, drop-take, drop_more, take-append-drop}
-use Rattle.grammar.specs.declared.fault.SendFault.TheVariants.{NoContainer, NoRoom}
+use Rattle.std.proofs.lemmas.List.{append-nil, length-append, length-take-le, length-drop, length-map, take-take, take_at, take_all, drop_at, drop_all, drop-take, drop_more}
 use Rattle.grammar.specs.Sheet as S
 use Rattle.grammar.specs.Sheet.{done, sent, refused, not_sent, not_now, Entry, Log, held, room_in, BestSent, Lawful}
 use Rattle.runs.specs.declared.script.Answer.{Answer}
 use Rattle.runs.specs.declared.script.Call.{Call}
-use Rattle.runs.specs.Scripts.{called, shown, shown_in, call_in, rooms, put_at, written, since, fits_script, Runs, Ran}
+use Rattle.runs.specs.Scripts.{called, shown, shown_in, call_in, rooms, put_at, written, since, fits_script, Runs}
 use Rattle.grammar.specs.Grammar.{Rows}
 use Rattle.listing.specs.Listed.{listed}
 use Rattle.scripts.specs.declared.asked.Asked.{Asked}

@@ -1,8 +1,8 @@
 -- What is sent, by what a look over the rows found and the default that was chosen from it.
 -- Assumes nothing.
-use Rattle.std.proofs.Common.{◌≡◌, ℕ, suc, ◌+◌, ◌-◌, ◌*◌, ◌<◌, ◌≤◌, Bool, true, false, cond, ◌⊎◌, List, [], ◌∷◌, ◌++◌, length, get_or, Some, None, Option, sym, refl, ap, ◌∙◌, subst, ap₂, inl, inr, arith, length-append}
+use Rattle.std.proofs.Common.{◌≡◌, ℕ, suc, ◌+◌, ◌-◌, ◌*◌, ◌<◌, ◌≤◌, Bool, true, false, cond, ◌⊎◌, [], ◌∷◌, length, get_or, Some, None, sym, refl, ap, ◌∙◌, subst, arith, length-append}
 use Rattle.grammar.specs.Format.{layout, width, fixed_bytes, big}
-use Rattle.grammar.specs.Grammar.{Row, Rows, default_of}
+use Rattle.grammar.specs.Grammar.{Rows, default_of}
 use Rattle.grammar.specs.Reading.{if, is_text}
 use Rattle.grammar.specs.Sending.{texts_in, frame, sending}
 use Rattle.grammar.specs.Flat.{flat, flat_container}
@@ -12,7 +12,7 @@ use Rattle.grammar.proofs.Choosing.{texts_in_le, rows_fit}
 use Rattle.grammar.proofs.Sent.{flat_long, sent_under, none_under}
 use Rattle.location.specs.Answers.{any_row}
 use Rattle.sender.specs.declared.survey.Survey.{Survey}
-use Rattle.sender.specs.Surveyed.{must_be, Surveyed, Bounded, length_for, Chosen}
+use Rattle.sender.specs.Surveyed.{Surveyed, Bounded, length_for, Chosen}
 use Rattle.sender.specs.Writable.{Writable}
 use Rattle.sender.proofs.Writes.{writable}
 

@@ -1,19 +1,18 @@
 -- The bytes of the first of some rows, as they are written piece by piece.
 -- Assumes nothing.
-use Rattle.std.proofs.Common.{◌≡◌, ℕ, zero, suc, ◌+◌, ◌^◌, ◌<◌, ◌≤◌, Bool, true, false, eqb, List, [], ◌∷◌, ◌++◌, length, ℤ, Some, None, Option, sym, refl, ap, ◌∙◌, subst, ap₂, arith, length-append}
-use Rattle.grammar.specs.declared.table.Layout.{Layout}
+use Rattle.std.proofs.Common.{◌≡◌, ℕ, zero, suc, ◌+◌, ◌^◌, ◌<◌, ◌≤◌, Bool, true, false, List, [], ◌∷◌, ◌++◌, length, Some, None, sym, refl, ap, ◌∙◌, subst, arith, length-append}
 use Rattle.grammar.specs.Format.{layout, fixed, fits, big}
 use Rattle.grammar.specs.Grammar.{Rows, Row as Told}
 use Rattle.grammar.specs.Reading.{if, is_text, is_count}
-use Rattle.grammar.specs.Flat.{language_part, front, own_size, inside_size, held_count, row_bytes, flat}
+use Rattle.grammar.specs.Flat.{language_part, front, inside_size, held_count, row_bytes, flat}
 use Rattle.grammar.proofs.Normal.{on_eqb}
 use Rattle.grammar.proofs.Flattened.{row_length}
 use Rattle.location.specs.declared.Row.{Row}
 use Rattle.location.specs.Answers.{seen, head_row, head_text, Next}
 use Rattle.sender.specs.Splice.{splice}
-use Rattle.sender.specs.Heads.{rest_of, front_at, head_bytes, HeadWritable, front_long, own_long, counted_in}
+use Rattle.sender.specs.Heads.{rest_of, front_at, head_bytes, HeadWritable, front_long, counted_in}
 use Rattle.sender.specs.Writable.{Writable}
-use Rattle.sender.proofs.Spliced.{splice_splice, splice_none, length_splice, width_few}
+use Rattle.sender.proofs.Spliced.{splice_splice, width_few}
 use Rattle.sender.proofs.Looked.{seen_is, no_row, front_long_is, own_long_is, front_counted}
 
 -- the language part

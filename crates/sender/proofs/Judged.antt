@@ -1,12 +1,9 @@
 -- What is promised of sending, from what was sent.
 -- Assumes nothing.
-use Rattle.std.proofs.Common.{◌≡◌, ℕ, ◌+◌, ◌<◌, ◌≤◌, Bool, true, false, ltb, List, [], ◌∷◌, ◌++◌, length, take, drop, Some, None, Ok, Err, Option, Result, sym, refl, ap, ◌∙◌, subst, arith, length-append, take_at, drop_at, ltb-false, ltb-true, le-ltb, lt-ltb}
-use Rattle.grammar.specs.declared.fault.SendFault.{SendFault}
+use Rattle.std.proofs.Common.{◌≡◌, ℕ, ◌<◌, ◌≤◌, List, ◌++◌, length, take, drop, Some, None, Ok, Err, Option, sym, refl, ap, ◌∙◌, subst, arith, take_at, drop_at, le-ltb, lt-ltb}
 use Rattle.grammar.specs.declared.fault.SendFault.TheVariants.{NoContainer, NoRoom}
-use Rattle.grammar.specs.Grammar.{Rows, Tells, Best, default_of}
-use Rattle.grammar.specs.Reading.{if}
-use Rattle.grammar.specs.Sending.{sending, into, sending_into}
-use Rattle.grammar.proofs.Cut.{by_cases}
+use Rattle.grammar.specs.Grammar.{Rows, Best, default_of}
+use Rattle.grammar.specs.Sending.{sending, into}
 use Rattle.grammar.proofs.Sends.{sends}
 use Rattle.sender.specs.Sent.{Sent, SentBest}
 

@@ -1,12 +1,10 @@
 -- The sizes and counts by what code sees of the rows.
 -- Assumes nothing.
-use Rattle.std.proofs.Common.{◌≡◌, ℕ, zero, suc, ◌+◌, ◌<◌, ◌≤◌, Bool, true, false, eqb, List, [], ◌∷◌, ◌++◌, length, ℤ, Some, None, Option, sym, refl, ap, ◌∙◌, subst, ap₂, arith, length-append}
+use Rattle.std.proofs.Common.{◌≡◌, ℕ, suc, ◌+◌, ◌<◌, ◌≤◌, Bool, true, false, eqb, List, [], ◌∷◌, ◌++◌, length, Some, None, Option, sym, refl, ap, ◌∙◌, arith, length-append}
 use native.Mathlib.Decide.{dec_lt}
-use borrow.Author.Tests.{clash}
 use Rattle.grammar.specs.declared.table.Fields.{Fields}
 use Rattle.grammar.specs.declared.table.Fields.TheVariants.{Nothing, Code, Text, Globe, Floor, Count, Radius, Height}
-use Rattle.grammar.specs.declared.table.Layout.{Layout}
-use Rattle.grammar.specs.Format.{layout, fixed, fixed_bytes}
+use Rattle.grammar.specs.Format.{layout, fixed}
 use Rattle.grammar.specs.Grammar.{Rows, Row as Told}
 use Rattle.grammar.specs.Reading.{if, is_text, is_count}
 use Rattle.grammar.specs.Flat.{language_part, front, own_size, inside_size, held_count}
@@ -16,7 +14,7 @@ use Rattle.grammar.proofs.Flattened.{inside_deeper, inside_stops, count_next, co
 use Rattle.location.specs.declared.Row.{Row}
 use Rattle.location.specs.Answers.{seen, head_row, Next}
 use Rattle.sender.proofs.Laid.{fields_long}
-use Rattle.sender.specs.Heads.{language_long, front_long, own_long, counted_in, one_deeper, front_at}
+use Rattle.sender.specs.Heads.{language_long, front_long, own_long, counted_in, one_deeper}
 
 -- the row at a mark is what is seen of the first
 pub seen_is : (row : Row) (x : Told) → Some row ≡ Some (seen x) → row ≡ seen x

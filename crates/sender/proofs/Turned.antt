@@ -1,9 +1,9 @@
 -- One turn of a look over the rows of a location: what the calls at a mark answer, of the rows from there on.
 -- Assumes nothing.
-use Rattle.std.proofs.Common.{◌≡◌, ℕ, suc, ◌<◌, ◌≤◌, Bool, true, false, not, ◌&&◌, ◌||◌, eqb, ltb, List, [], ◌∷◌, length, get_or, Some, None, Option, sym, refl, ap, ◌∙◌, subst, arith}
+use Rattle.std.proofs.Common.{◌≡◌, ℕ, suc, ◌<◌, ◌≤◌, Bool, true, false, not, ◌&&◌, ◌||◌, eqb, ltb, List, [], ◌∷◌, length, get_or, Some, None, Option, sym, ap, ◌∙◌, subst, arith}
 use Rattle.grammar.specs.declared.table.Layout.{Layout}
 use Rattle.grammar.specs.Format.{layout}
-use Rattle.grammar.specs.Grammar.{Rows, Row as Told, Byte, Bytes}
+use Rattle.grammar.specs.Grammar.{Rows, Row as Told, Bytes}
 use Rattle.grammar.specs.Flat.{held_count}
 use Rattle.grammar.specs.Reading.{is_text, is_count}
 use Rattle.grammar.specs.Sending.{counts, stands}

@@ -1,26 +1,24 @@
 -- A look over the rows of a location, underway: what is kept from row to row, and what follows at the end or where it is given up.
 -- Assumes nothing.
-use Rattle.std.proofs.Common.{◌≡◌, ℕ, zero, suc, ◌+◌, ◌-◌, ◌*◌, ◌^◌, ◌<◌, ◌≤◌, Bool, true, false, not, ◌&&◌, ◌||◌, eqb, ltb, leb, ◌≢◌, ◌⊎◌, List, [], ◌∷◌, length, get_or, drop, set, replicate, Some, None, Option, sym, refl, ap, ◌∙◌, subst, inl, inr, arith, length-set, get_or-set_other, get_or-set_same}
+use Rattle.std.proofs.Common.{◌≡◌, ℕ, zero, suc, ◌+◌, ◌-◌, ◌*◌, ◌<◌, ◌≤◌, Bool, true, false, not, ◌&&◌, ◌||◌, eqb, ltb, leb, ◌≢◌, List, [], ◌∷◌, length, get_or, drop, set, replicate, Some, None, Option, sym, refl, ap, ◌∙◌, subst, inl, inr, arith, length-set, get_or-set_other, get_or-set_same}
 use native.Mathlib.Decide.{dec_lt}
 use lib.ListN.{get_or-replicate, length-replicate}
-use Rattle.std.proofs.lemmas.Bool.{and_parts, and_cases, and_left, and_right, ltb-true, leb-true, eqb-true, lt-ltb, le-ltb, eq-eqb, ne_eqb, cases_Bool, cases_lt, false≢true, true≢false}
+use Rattle.std.proofs.lemmas.Bool.{and_parts, and_cases, and_left, and_right, ltb-true, leb-true, eqb-true, lt-ltb, ne_eqb, cases_lt}
 use Rattle.grammar.specs.declared.table.Spot.TheVariants.{Descriptions}
 use Rattle.grammar.specs.declared.table.Layout.{Layout}
-use Rattle.grammar.specs.Format.{layout, width, kind_at, is_zero, fits, fixed_bytes}
+use Rattle.grammar.specs.Format.{layout, kind_at, is_zero, fits}
 use Rattle.grammar.specs.Grammar.{Rows, Row as Told, Byte, Bytes, deeper}
-use Rattle.grammar.specs.Reading.{if, is_text, is_count, closed, empty}
+use Rattle.grammar.specs.Reading.{if, is_text, is_count, empty}
 use Rattle.grammar.specs.Flat.{held_count}
 use Rattle.grammar.specs.Sending.{counts, texts_in, full_size, frame, Stands, stands?, stands, is_yes}
 use Rattle.grammar.specs.Admits.{Level, plain_row, row_stands, within, level_room, opened, at_depth, admits, top_level}
 use Rattle.grammar.specs.Choice.{over, tight, any_over, suits, bare_size, base_size, texts as texts_of, ByteRows}
 use Rattle.grammar.proofs.Admitted.{admits_stands, levels_few}
 use Rattle.grammar.proofs.Choosing.{texts_in_le, full_is, rows_fit_not}
-use Rattle.location.specs.declared.Row.{Row}
 use Rattle.location.specs.Answers.{seen, any_row}
 use Rattle.sender.specs.declared.survey.Open.{Open}
 use Rattle.sender.specs.declared.survey.Sums.{Sums}
-use Rattle.sender.specs.declared.survey.Survey.{Survey}
-use Rattle.sender.specs.Tested.{over_by, tight_by, bare_by, plain_by, stands_in, shut, blank_open, level, open_levels, Roomy, Opened}
+use Rattle.sender.specs.Tested.{plain_by, stands_in, shut, blank_open, level, open_levels, Roomy, Opened}
 use Rattle.sender.specs.Surveyed.{must_be, Added, Surveyed}
 
 clash : {X : Type 0} → true ≡ false → X

@@ -1,18 +1,15 @@
 -- Rows that have a tree, whose texts fit under a default and whose bytes are within the limit, can be written one by one.
 -- Assumes nothing.
-use Rattle.std.proofs.Common.{◌≡◌, ℕ, suc, ◌+◌, ◌-◌, ◌^◌, ◌<◌, ◌≤◌, Bool, true, false, not, ◌&&◌, ◌||◌, T, eqb, ltb, leb, List, [], ◌∷◌, ◌++◌, length, sym, refl, ap, ◌∙◌, subst, arith, leb→le, length-append, length-drop}
-use Rattle.std.proofs.lemmas.Bool.{and_parts, or_parts, ltb-true, false≢true}
-use Rattle.grammar.specs.declared.table.Fields.{Fields}
+use Rattle.std.proofs.Common.{◌≡◌, ℕ, suc, ◌+◌, ◌-◌, ◌^◌, ◌<◌, ◌≤◌, Bool, true, false, not, ◌&&◌, ◌||◌, T, eqb, ltb, leb, List, [], ◌∷◌, ◌++◌, length, sym, refl, ap, subst, arith, leb→le, length-append, length-drop}
+use Rattle.std.proofs.lemmas.Bool.{and_parts, ltb-true, false≢true}
 use Rattle.grammar.specs.declared.table.Layout.{Layout}
-use Rattle.grammar.specs.Format.{layout, table, blank, width, fixed, fits, kind_at, is_zero}
+use Rattle.grammar.specs.Format.{layout, table, blank, fixed, fits, kind_at, is_zero}
 use Rattle.grammar.specs.Grammar.{Row, Rows, deeper}
 use Rattle.grammar.specs.Reading.{if, is_text, is_count, closed, empty}
 use Rattle.grammar.specs.Deciding.{RowFits, RowsFit, text_frame}
-use Rattle.grammar.specs.Sending.{fields_size}
-use Rattle.grammar.specs.Flat.{language_part, front, own_size, inside_size, held_count, flat}
+use Rattle.grammar.specs.Flat.{language_part, front, inside_size, held_count, flat}
 use Rattle.grammar.specs.Admits.{Level, plain_row, row_stands, within, opened, at_depth, admits}
-use Rattle.grammar.proofs.Cut.{by_cases}
-use Rattle.grammar.proofs.Lines.{line_at, text_closed}
+use Rattle.grammar.proofs.Lines.{line_at}
 use Rattle.grammar.proofs.Sizes.{fields_size_is}
 use Rattle.grammar.proofs.Legal.{fields_small}
 use Rattle.grammar.proofs.Flattened.{column_width, inside_bound, inside_stops, flat_cons_length}

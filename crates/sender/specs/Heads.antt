@@ -1,10 +1,9 @@
 -- What is written of the first of some rows, and how long it is by what code sees of the row.
-use Rattle.std.specs.Prelude.{◌≡◌, ℕ, suc, ◌+◌, Bool, true, false, List, [], ◌∷◌, ◌==◌}
-use Rattle.grammar.specs.declared.table.Layout.{Layout}
+use Rattle.std.specs.Prelude.{ℕ, suc, ◌+◌, Bool, true, false, List, [], ◌∷◌, ◌==◌}
 use Rattle.grammar.specs.Format.{layout}
 use Rattle.grammar.specs.Grammar.{Rows}
-use Rattle.grammar.specs.Reading.{if, is_text, is_count}
-use Rattle.grammar.specs.Flat.{front, held_count, row_bytes}
+use Rattle.grammar.specs.Reading.{if, is_text}
+use Rattle.grammar.specs.Flat.{front, row_bytes}
 use Rattle.location.specs.declared.Row.{Row}
 use Rattle.sender.specs.Writable.{RowWritable}
 

@@ -1,5 +1,5 @@
 -- What sending does to an output.
-use Rattle.std.specs.Prelude.{◌≡◌, ℕ, ◌<◌, ◌≤◌, List, ◌++◌, length, take, drop, Ok, Err, Result}
+use Rattle.std.specs.Prelude.{◌≡◌, ℕ, ◌<◌, ◌≤◌, List, length, take, drop, Ok, Err, Result}
 use Rattle.grammar.specs.declared.fault.SendFault.{SendFault}
 use Rattle.grammar.specs.declared.fault.SendFault.TheVariants.{NoContainer, NoRoom}
 use Rattle.grammar.specs.Grammar.{Rows, Tells, Best, default_of}

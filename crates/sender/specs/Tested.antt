@@ -1,5 +1,5 @@
 -- The tests of one row, as code sees it: its text by the length alone.
-use Rattle.std.specs.Prelude.{◌≡◌, ℕ, zero, suc, ◌+◌, ◌^◌, ◌<◌, ◌≤◌, Bool, true, false, not, ◌&&◌, ◌||◌, List, [], ◌∷◌, length, get_or, ◌==◌, nat_le, nat_lt, slice_index_or, slice_set}
+use Rattle.std.specs.Prelude.{◌≡◌, ℕ, zero, suc, ◌+◌, ◌^◌, ◌<◌, ◌≤◌, Bool, true, false, ◌&&◌, ◌||◌, List, [], ◌∷◌, get_or, ◌==◌, nat_le, nat_lt, slice_index_or, slice_set}
 use Rattle.grammar.specs.declared.table.Spot.TheVariants.{Nowhere}
 use Rattle.grammar.specs.declared.table.Layout.{Layout}
 use Rattle.grammar.specs.Format.{width, fixed_bytes, kind_at, is_zero, fits}

@@ -1,6 +1,5 @@
 -- Rows that can be written one by one: each row's numbers fit its fields, and what stands inside it fits its length and its count.
-use Rattle.std.specs.Prelude.{◌≡◌, ℕ, ◌+◌, ◌^◌, ◌<◌, ◌≤◌, true, false, List, [], ◌∷◌, length}
-use Rattle.grammar.specs.declared.table.Layout.{Layout}
+use Rattle.std.specs.Prelude.{◌≡◌, ℕ, ◌+◌, ◌^◌, ◌<◌, ◌≤◌, true, false, [], ◌∷◌, length}
 use Rattle.grammar.specs.Format.{layout, fits}
 use Rattle.grammar.specs.Grammar.{Row, Rows}
 use Rattle.grammar.specs.Reading.{is_text, is_count}

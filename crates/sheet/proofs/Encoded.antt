@@ -1,11 +1,11 @@
 -- What stands in a record is the row that was written.
 -- Assumes nothing.
-use Rattle.std.proofs.Common.{◌≡◌, ℕ, zero, suc, ◌+◌, ◌-◌, ◌*◌, ◌/◌, ◌%◌, ◌^◌, ◌<◌, ◌≤◌, Bool, true, false, leb, List, [], ◌∷◌, ◌++◌, length, get_or, take, drop, ℤ, pos, negsuc, sym, refl, ap, ◌∙◌, subst, ap₂, append_assoc, div-one, add-one, arith, length-append, length-drop, length-take-le, take_all, drop-drop, w32, SFits, of_z, le-leb, leb-false, leb-true}
+use Rattle.std.proofs.Common.{◌≡◌, ℕ, zero, suc, ◌+◌, ◌-◌, ◌/◌, ◌%◌, ◌<◌, ◌≤◌, List, [], ◌∷◌, ◌++◌, length, get_or, take, drop, ℤ, pos, negsuc, sym, refl, ap, ◌∙◌, ap₂, append_assoc, div-one, add-one, arith, length-append, length-drop, length-take-le, take_all, w32, SFits, of_z, le-leb, leb-false, leb-true}
 use borrow.Author.Tests.{lt-leb}
 use Rattle.std.proofs.lemmas.List.{nil_from_length, get_or_append_left, drop-append-le, take-append-le}
 use Rattle.grammar.specs.Format.{big, twos, Between}
 use Rattle.grammar.specs.Grammar.{Rows, Row as Told}
-use Rattle.grammar.specs.Reading.{signed, number}
+use Rattle.grammar.specs.Reading.{signed}
 use Rattle.grammar.proofs.Cut.{by_cases}
 use Rattle.grammar.proofs.Numbers.{length_twos, signed_twos}
 use Rattle.location.specs.declared.Row.{Row}

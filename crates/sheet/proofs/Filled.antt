@@ -1,6 +1,6 @@
 -- The rows of a location, taken one by one.
 -- Assumes nothing.
-use Rattle.std.proofs.Common.{◌≡◌, ℕ, suc, ◌+◌, ◌-◌, ◌<◌, ◌≤◌, Bool, true, false, cond, leb, List, [], ◌∷◌, ◌++◌, length, take, drop, Some, sym, refl, ap, ◌∙◌, ap₂, append_assoc, arith, length-append, length-drop, length-take-le, take_all, take_at, le-leb}
+use Rattle.std.proofs.Common.{◌≡◌, ℕ, ◌+◌, ◌-◌, ◌<◌, ◌≤◌, Bool, true, cond, leb, List, [], ◌∷◌, ◌++◌, length, take, drop, Some, sym, ap, ◌∙◌, ap₂, append_assoc, arith, length-append, length-drop, length-take-le, take_all, take_at, le-leb}
 use borrow.Rule.Slice.PartMut.{put_mid}
 use Rattle.grammar.specs.Grammar.{Rows, Row as Told}
 use Rattle.location.specs.declared.Row.{Row}

@@ -1,7 +1,7 @@
 -- The first of the conditions that refuse a row, and what they say of the rows held.
 -- Assumes nothing.
-use Rattle.std.proofs.Common.{◌≡◌, ℕ, zero, suc, ◌+◌, ◌-◌, ◌<◌, ◌≤◌, Bool, true, false, not, ◌&&◌, eqb, ltb, leb, List, [], ◌∷◌, ◌++◌, length, Ok, Err, sym, refl, ap, ◌∙◌, subst, arith, ltb-false, ltb-true, le-ltb, lt-ltb, le-leb, leb-false, leb-true}
-use borrow.Author.Tests.{lt-leb, not-true, not-false}
+use Rattle.std.proofs.Common.{◌≡◌, ℕ, ◌+◌, ◌-◌, ◌<◌, ◌≤◌, Bool, true, false, not, ◌&&◌, ltb, leb, List, [], ◌∷◌, ◌++◌, length, Ok, Err, sym, refl, ap, ◌∙◌, arith, ltb-false, ltb-true, le-ltb, lt-ltb, le-leb, leb-false, leb-true}
+use borrow.Author.Tests.{lt-leb, not-false}
 use Rattle.std.proofs.lemmas.List.{length-append}
 use Rattle.grammar.specs.declared.fault.SheetFault.{SheetFault}
 use Rattle.grammar.specs.declared.fault.SheetFault.TheVariants.{NinthNode, Misplaced, Unfit, TooManyRows, TooCostly}
@@ -9,7 +9,6 @@ use Rattle.grammar.specs.Format.{layout}
 use Rattle.grammar.specs.Grammar.{Row, Rows, deeper}
 use Rattle.grammar.specs.Reading.{reading}
 use Rattle.grammar.specs.Sheet.{Verdict, refuse_if, may_stand, nodes_open, cost, cost_of, judge_row, judge_rows, judge_load}
-use Rattle.grammar.proofs.Cut.{by_cases}
 use Rattle.sheet.specs.declared.opened.Opened.{Opened}
 use Rattle.sheet.specs.declared.judge.Space.{Space}
 use Rattle.sheet.specs.declared.judge.Asked.{Asked}

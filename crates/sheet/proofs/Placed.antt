@@ -1,7 +1,7 @@
 -- The rows of a place, by what stands there.
 -- Assumes nothing.
-use Rattle.std.proofs.Common.{◌≡◌, ℕ, suc, ◌+◌, ◌-◌, ◌*◌, ◌<◌, ◌≤◌, Bool, List, [], ◌∷◌, length, get_or, take, drop, ℤ, is_some, Some, None, Option, sym, refl, ap, ◌∙◌, subst, ap₂, arith, length-drop, get_or-drop, drop-drop, w32, to_z}
-use Rattle.grammar.specs.Grammar.{Rows, Row as Told}
+use Rattle.std.proofs.Common.{◌≡◌, ℕ, suc, ◌+◌, ◌-◌, ◌*◌, ◌<◌, ◌≤◌, List, [], ◌∷◌, length, get_or, take, drop, ℤ, is_some, Some, None, Option, sym, refl, ap, ◌∙◌, subst, ap₂, arith, length-drop, get_or-drop, drop-drop, w32, to_z}
+use Rattle.grammar.specs.Grammar.{Rows}
 use Rattle.grammar.specs.Reading.{signed, number, value}
 use Rattle.fields.proofs.Places.{halved}
 use Rattle.location.specs.declared.Row.{Row}

@@ -1,6 +1,6 @@
 -- How many rows can be open: by the table no two rows that are no nodes are open one right inside the other.
 -- Assumes nothing.
-use Rattle.std.proofs.Common.{◌≡◌, ℕ, zero, suc, ◌+◌, ◌<◌, ◌≤◌, Bool, true, false, not, ◌&&◌, eqb, ltb, leb, List, [], ◌∷◌, length, Ok, Err, sym, refl, ap, ◌∙◌, subst, arith, ltb-false, ltb-true, eqb-true, le-leb, leb-true}
+use Rattle.std.proofs.Common.{◌≡◌, ℕ, suc, ◌<◌, ◌≤◌, Bool, true, false, not, ◌&&◌, ltb, leb, List, [], ◌∷◌, length, Ok, Err, sym, refl, ap, ◌∙◌, arith, ltb-false, ltb-true, eqb-true, le-leb, leb-true}
 use borrow.Author.Tests.{not-false}
 use Rattle.grammar.specs.declared.fault.SheetFault.{SheetFault}
 use Rattle.grammar.specs.declared.fault.SheetFault.TheVariants.{NothingOpen}

@@ -1,5 +1,5 @@
 -- The rows that a store holds.
-use Rattle.std.specs.Prelude.{◌≡◌, ℕ, ◌≤◌, length, take}
+use Rattle.std.specs.Prelude.{◌≡◌, ◌≤◌, length, take}
 use Rattle.grammar.specs.Grammar.{Rows}
 use Rattle.sheet.specs.declared.store.Store.{Store}
 use Rattle.grammar.specs.Sheet.{cost}

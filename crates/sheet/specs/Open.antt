@@ -1,5 +1,5 @@
 -- The rows that are open on a draft.
-use Rattle.std.specs.Prelude.{ℕ, zero, suc, Bool, true, not, ◌&&◌, List, [], ◌∷◌, nat_le, slice_index}
+use Rattle.std.specs.Prelude.{ℕ, zero, suc, Bool, true, ◌&&◌, List, [], ◌∷◌, nat_le, slice_index}
 use Rattle.grammar.specs.Format.{layout}
 use Rattle.grammar.specs.Grammar.{deeper}
 use Rattle.grammar.specs.Sheet.{may_stand, is_opened, nodes_open}

@@ -1,12 +1,12 @@
 -- Bytes that are sent, and the rows that they were sent for.
 -- Assumes nothing.
-use Rattle.std.proofs.Common.{◌≡◌, ℕ, ◌≤◌, List, length, take, Ok, Err, Result, sym, refl, ap, ◌∙◌, subst, arith}
+use Rattle.std.proofs.Common.{◌≡◌, ℕ, ◌≤◌, List, length, take, Ok, Err, Result, sym, refl, ap, subst, arith}
 use Rattle.grammar.specs.declared.fault.SendFault.{SendFault}
 use Rattle.grammar.specs.declared.fault.SendFault.TheVariants.{NoContainer, NoRoom}
 use Rattle.grammar.specs.Grammar.{Rows, Tells, Best}
 use Rattle.grammar.proofs.Exact.{one_meaning}
 use Rattle.grammar.proofs.Sends.{unique}
-use Rattle.sender.specs.Sent.{Sent, SentBest}
+use Rattle.sender.specs.Sent.{SentBest}
 use Rattle.tpegloc.specs.Agreed.{SameRows, Within, RefusedExactly}
 
 -- the best containers of two lists are equal exactly when the lists are

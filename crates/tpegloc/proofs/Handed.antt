@@ -1,11 +1,11 @@
 -- What the call for C hands on, by what was sent.
 -- Assumes nothing.
-use Rattle.std.proofs.Common.{◌≡◌, ℕ, ◌+◌, ◌<◌, ◌≤◌, List, ◌++◌, length, take, drop, Ok, Err, Result, sym, refl, ap, ◌∙◌, subst, ap₂, inl, inr, arith, take-append-drop}
+use Rattle.std.proofs.Common.{◌≡◌, ℕ, ◌+◌, ◌≤◌, List, ◌++◌, length, take, drop, Ok, Err, Result, sym, refl, ap, ◌∙◌, ap₂, inl, inr, arith, take-append-drop}
 use Rattle.grammar.specs.declared.fault.SendFault.{SendFault}
 use Rattle.grammar.specs.declared.fault.SendFault.TheVariants.{NoContainer, NoRoom}
 use Rattle.grammar.specs.Grammar.{Rows, Tells}
 use Rattle.grammar.specs.Faults.{send_number_of}
-use Rattle.grammar.specs.Reading.{Read, reading}
+use Rattle.grammar.specs.Reading.{Read}
 use Rattle.grammar.specs.Sending.{sending_into}
 use Rattle.grammar.proofs.Complete.{reading_complete}
 use Rattle.sender.specs.Sent.{Sent, SentBest}

@@ -1,4 +1,4 @@
-use Rattle.std.proofs.Common.{◌≡◌, string_bytes, sym, ap, ◌∙◌, arith}
+use Rattle.std.proofs.Common.{string_bytes, sym, ap, ◌∙◌, arith}
 use Rattle.std.proofs.lemmas.Result.{IfOk-at_ok}
 use Rattle.location.specs.Answers.{head_text}
 use Rattle.listing.proofs.Writing.{text_more, text_all, past_nth}

@@ -1,4 +1,4 @@
-use Rattle.std.proofs.Common.{◌≡◌, ℕ, ◌+◌, ◌-◌, Bool, true, false, List, [], ◌∷◌, ◌++◌, sym, refl, ap, ◌∙◌, arith}
+use Rattle.std.proofs.Common.{ℕ, ◌-◌, List, [], ◌∷◌, sym, ap, ◌∙◌}
 use Rattle.grammar.specs.Format.{big}
 use Rattle.grammar.specs.Flat.{flat}
 use Rattle.sender.specs.Splice.{splice}

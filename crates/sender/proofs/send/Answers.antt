@@ -1,4 +1,4 @@
-use Rattle.std.proofs.Common.{◌≡◌, ℕ, ◌+◌, ◌-◌, List, [], ◌∷◌, ◌++◌, sym, refl, ap, ◌∙◌, arith}
+use Rattle.std.proofs.Common.{sym}
 use Rattle.grammar.proofs.Choosing.{none_chosen as none_stands}
 use Rattle.grammar.specs.Flat.{flat_container}
 use Rattle.sender.proofs.Judged.{refused_none, refused_none_best, refused_room, refused_room_best, sent, sent_best}

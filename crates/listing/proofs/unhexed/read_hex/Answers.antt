@@ -1,4 +1,4 @@
-use Rattle.std.proofs.Common.{◌≡◌, ℕ, true, false, get_or, drop, Some, None, vec_items, sym, refl, ap, ◌∙◌, subst, arith, eq-eqb, ne_eqb}
+use Rattle.std.proofs.Common.{true, false, get_or, drop, None, vec_items, sym, refl, ap, ◌∙◌, subst, eq-eqb, ne_eqb}
 use Rattle.listing.specs.Unhexed.{digit_of, put_before, unhex_from, Half}
 use Rattle.listing.proofs.Unhexing.{step, waits, makes, at_end, at_half}
 use Rattle.listing.proofs.unhexed.read_hex.Goals as goal

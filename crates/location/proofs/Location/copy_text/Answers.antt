@@ -1,4 +1,4 @@
-use Rattle.std.proofs.Common.{◌≡◌, ℕ, ◌+◌, ◌<◌, ◌≤◌, List, ◌++◌, length, take, drop, Some, None, sym, refl, ap, ◌∙◌, subst, arith, take_all, rules, le-leb}
+use Rattle.std.proofs.Common.{◌≡◌, ℕ, List, ◌++◌, length, take, drop, sym, refl, ap, ◌∙◌, subst, arith, take_all, rules, le-leb}
 use Rattle.grammar.specs.Grammar.{Bytes}
 use Rattle.location.specs.Answers.{head_text}
 use Rattle.location.proofs.Copied.{head_long, head_none, nth_some, copied_one, bytes_one}

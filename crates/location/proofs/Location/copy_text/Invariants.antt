@@ -1,4 +1,4 @@
-use Rattle.std.proofs.Common.{◌≡◌, ◌≤◌, ◌++◌, length, take, drop}
+use Rattle.std.proofs.Common.{◌≡◌, ◌++◌, take, drop}
 use Rattle.grammar.specs.Grammar.{Bytes}
 use Rattle.location.specs.Answers.{head_text}
 use Rattle.location.proofs.Location.copy_text.Given as goal

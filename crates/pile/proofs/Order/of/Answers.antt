@@ -1,4 +1,4 @@
-use Rattle.std.proofs.Common.{◌≡◌, ℕ, ◌≤◌, List, [], ◌∷◌, length, get_or, refl, ap, ◌∙◌, arith}
+use Rattle.std.proofs.Common.{◌≡◌, ◌≤◌, List, [], ◌∷◌, length, get_or, arith}
 use Rattle.grammar.specs.Grammar.{Rows}
 use Rattle.pile.specs.declared.Layer.{Layer}
 use Rattle.pile.specs.declared.Layer.TheVariants.{All}

@@ -1,13 +1,12 @@
-use Rattle.std.proofs.Common.{◌≡◌, ℕ, ◌+◌, ◌-◌, ◌<◌, ◌≤◌, true, false, length, get_or, Ok, Err, sym, refl, ap, ◌∙◌, subst, ap₂, arith, rules}
+use Rattle.std.proofs.Common.{◌≡◌, ℕ, ◌+◌, ◌-◌, ◌<◌, true, false, get_or, Ok, Err, sym, refl, ap, ◌∙◌, subst, arith, rules}
 use Rattle.std.proofs.lemmas.Result.{err_from_is_err_and}
-use Rattle.grammar.specs.declared.table.Spot.TheVariants.{Node, Associated}
+use Rattle.grammar.specs.declared.table.Spot.TheVariants.{Node}
 use Rattle.grammar.specs.declared.table.Layout.{Layout}
-use Rattle.grammar.specs.declared.fault.ReadFault.{ReadFault}
 use Rattle.grammar.specs.declared.fault.ReadFault.TheVariants.{Miscounted}
 use Rattle.grammar.specs.Format.{layout, kind_at}
 use Rattle.grammar.specs.Reading.{is_count}
-use Rattle.grammar.specs.Checks.{leafy, component_of, nodes_of, parts_of, plus}
-use Rattle.grammar.proofs.Lines.{node_leafy, node_associated}
+use Rattle.grammar.specs.Checks.{leafy, nodes_of, plus}
+use Rattle.grammar.proofs.Lines.{node_leafy}
 use Rattle.grammar.proofs.Steps.{node_deep}
 use Rattle.reader.specs.declared.edge.Within.{Within}
 use Rattle.reader.proofs.Turns.{turns_done, turn_past, turn_unknown, turn_fault, turn_ok, nodes_end, nodes_left, nodes_unopened, nodes_fault, nodes_ok, node_refused, node_so_far, modes_refused, modes_so_far}

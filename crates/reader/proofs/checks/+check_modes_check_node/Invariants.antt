@@ -1,6 +1,6 @@
-use Rattle.std.proofs.Common.{◌≡◌, ℕ, ◌+◌, ◌-◌, ◌≤◌}
+use Rattle.std.proofs.Common.{◌≡◌, ◌+◌, ◌-◌, ◌≤◌}
 use Rattle.grammar.specs.declared.table.Spot.TheVariants.{Node}
-use Rattle.grammar.specs.Checks.{component_of, parts_of, nodes_of, plus}
+use Rattle.grammar.specs.Checks.{parts_of, nodes_of, plus}
 use Rattle.reader.proofs.checks.+check_modes_check_node.Given as goal
 
 -- the bytes that are left of the component

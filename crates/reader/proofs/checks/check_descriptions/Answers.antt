@@ -1,9 +1,7 @@
-use Rattle.std.proofs.Common.{◌≡◌, ℕ, ◌+◌, ◌<◌, ◌≤◌, get_or, Ok, Err, sym, refl, ap, ◌∙◌, subst, ap₂, arith, rules}
+use Rattle.std.proofs.Common.{◌≡◌, ℕ, Err, sym, refl, ap, ◌∙◌, ap₂, arith, rules}
 use Rattle.std.proofs.lemmas.Result.{err_from_is_err_and}
-use Rattle.grammar.specs.declared.table.Spot.TheVariants.{Descriptions, Node}
-use Rattle.grammar.specs.Format.{layout, kind_at}
+use Rattle.grammar.specs.declared.table.Spot.TheVariants.{Descriptions}
 use Rattle.grammar.specs.Checks.{parts_of}
-use Rattle.grammar.proofs.Lines.{node_described}
 use Rattle.reader.proofs.Turns.{turns_done, turn_past, turn_unknown, turn_fault, turn_ok}
 use Rattle.reader.proofs.checks.check_descriptions.Goals as goal
 

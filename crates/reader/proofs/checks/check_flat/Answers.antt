@@ -1,9 +1,9 @@
-use Rattle.std.proofs.Common.{◌≡◌, ℕ, ◌+◌, ◌≤◌, Ok, Err, sym, ap, ◌∙◌, ap₂, arith, rules}
+use Rattle.std.proofs.Common.{◌≡◌, ℕ, ◌+◌, ◌≤◌, Err, sym, ap, ◌∙◌, ap₂, arith, rules}
 use Rattle.std.proofs.lemmas.Result.{err_from_is_err_and}
 use Rattle.grammar.specs.Format.{layout}
 use Rattle.grammar.specs.declared.table.Layout.{Layout}
 use Rattle.grammar.specs.Checks.{data_of, parts_of}
-use Rattle.grammar.proofs.Steps.{flat_fault, flat_inner_fault, flat_ok, data_closed}
+use Rattle.grammar.proofs.Steps.{flat_fault, flat_inner_fault, flat_ok}
 use Rattle.reader.proofs.checks.check_flat.Goals as goal
 
 pub returns-in_err-pass_data : goal.returns-in_err-pass_data

@@ -1,8 +1,6 @@
-use Rattle.std.proofs.Common.{◌≡◌, ℕ, ◌+◌, ◌<◌, ◌≤◌, Bool, true, false, length, get_or, Ok, Err, sym, refl, ap, ◌∙◌, subst, ap₂, arith, rules}
+use Rattle.std.proofs.Common.{ℕ, ◌+◌, true, Ok, Err, sym, refl, ap, ◌∙◌, arith}
 use Rattle.std.proofs.lemmas.Result.{err_from_is_err_and}
-use Rattle.grammar.specs.declared.fault.ReadFault.{ReadFault}
 use Rattle.grammar.specs.declared.table.Spot.TheVariants.{Descriptions}
-use Rattle.grammar.specs.Reading.{Read, then}
 use Rattle.grammar.specs.Offsets.{ends}
 use Rattle.grammar.specs.Checks.{parts_of, tops_of, plus}
 use Rattle.grammar.proofs.Cut.{go_then}

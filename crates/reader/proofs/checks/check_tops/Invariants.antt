@@ -1,4 +1,4 @@
-use Rattle.std.proofs.Common.{◌≡◌, ◌+◌, ◌-◌, ◌≤◌, false, length}
+use Rattle.std.proofs.Common.{◌≡◌, ◌-◌, ◌≤◌, false, length}
 use Rattle.grammar.specs.Checks.{tops_of, plus}
 use Rattle.reader.proofs.checks.check_tops.Given as goal
 

@@ -1,7 +1,5 @@
-use Rattle.std.proofs.Common.{◌≡◌, ℕ, ◌+◌, true, false, Some, sym, ap, ◌∙◌, arith}
-use Rattle.grammar.specs.Format.{layout}
+use Rattle.std.proofs.Common.{ℕ, ◌+◌, Some, sym, ap, ◌∙◌, arith}
 use Rattle.grammar.specs.Offsets.{ends_there}
-use Rattle.reader.specs.Fielded.{fields_end}
 use Rattle.reader.proofs.Passed.{room_some, room_short, end_short, end_over, end_fills, end_open}
 use Rattle.reader.proofs.parts.fields_end.Goals as goal
 use Rattle.reader.proofs.parts.fields_end.Goals.{else-ends_there-via-then-ends_there+else-size-reader, else-ends_there-via-else-ends_there}

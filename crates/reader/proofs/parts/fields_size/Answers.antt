@@ -1,4 +1,4 @@
-use Rattle.std.proofs.Common.{◌≡◌, sym, ap, ◌∙◌, arith}
+use Rattle.std.proofs.Common.{ap, arith}
 use Rattle.grammar.specs.declared.table.Layout.{Layout}
 use Rattle.reader.proofs.Passed.{least_over, room_none, room_enough}
 use Rattle.reader.proofs.parts.fields_size.Goals as goal

@@ -1,4 +1,4 @@
-use Rattle.std.proofs.Common.{◌≡◌, ℕ, ◌+◌, ◌-◌, ◌*◌, ◌^◌, ◌<◌, get_or, sym, ap, ◌∙◌, arith, rules}
+use Rattle.std.proofs.Common.{◌≡◌, ℕ, ◌+◌, ◌-◌, ◌*◌, ◌^◌, ◌<◌, get_or, ap, ◌∙◌, arith, rules}
 use Rattle.grammar.specs.Offsets.{value}
 use Rattle.reader.proofs.Digits.{digit_more, few, wider}
 use Rattle.reader.proofs.parts.number_at.Goals as goal

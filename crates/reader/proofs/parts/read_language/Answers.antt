@@ -1,7 +1,6 @@
-use Rattle.std.proofs.Common.{◌≡◌, ℕ, ◌+◌, ◌-◌, ◌<◌, ◌≤◌, true, false, length, get_or, is_some, Some, None, Ok, Err, Option, sym, refl, ap, ◌∙◌, arith, rules}
+use Rattle.std.proofs.Common.{◌≡◌, ℕ, is_some, Some, None, Err, Option, sym, refl, ap, ◌∙◌, arith, rules}
 use Rattle.std.proofs.lemmas.Result.{err_from_is_err_and}
 use Rattle.grammar.specs.Reading.{heard}
-use Rattle.grammar.specs.Offsets.{ends}
 use Rattle.grammar.specs.Checks.{tail_of}
 use Rattle.grammar.proofs.Steps.{tail_done, tail_past, tail_other, tail_second, tail_size, tail_language}
 use Rattle.reader.proofs.parts.read_language.Goals as goal

@@ -1,4 +1,4 @@
-use Rattle.std.proofs.Common.{◌≡◌, ℕ, ◌-◌, ◌≤◌, true, false, leb, List, ◌∷◌, get_or, sym, refl, ap, ◌∙◌, subst, ap₂, arith, le-leb}
+use Rattle.std.proofs.Common.{◌≡◌, ℕ, ◌-◌, true, false, leb, List, ◌∷◌, get_or, sym, refl, ap, ◌∙◌, subst, ap₂, arith, le-leb}
 use borrow.Author.Tests.{lt-leb}
 use Rattle.grammar.specs.declared.table.Layout.{Layout}
 use Rattle.grammar.specs.Format.{layout}

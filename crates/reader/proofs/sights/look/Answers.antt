@@ -1,6 +1,4 @@
-use Rattle.std.proofs.Common.{◌≡◌, ℕ, ◌-◌, ◌<◌, ◌≤◌, List, length, sym, refl, ap, ◌∙◌, subst, arith}
-use Rattle.reader.specs.declared.standings.Standing.{Standing}
-use Rattle.reader.specs.declared.standings.Standing.TheVariants.{Known, Unknown, Unread}
+use Rattle.std.proofs.Common.{◌≡◌, ℕ, ◌<◌, List, sym, ap, ◌∙◌, subst, arith}
 use Rattle.reader.specs.declared.marks.Mark.{Mark}
 use Rattle.reader.specs.Marks.{rows_at, left}
 use Rattle.reader.specs.Seen.{FoundAt}

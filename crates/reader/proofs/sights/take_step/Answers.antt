@@ -1,4 +1,4 @@
-use Rattle.std.proofs.Common.{◌≡◌, ℕ, ◌-◌, ◌<◌, ◌≤◌, length, sym, refl, ap, ◌∙◌, subst, arith}
+use Rattle.std.proofs.Common.{◌<◌, ◌≤◌, length, sym, ap, ◌∙◌, subst, arith}
 use Rattle.reader.specs.declared.marks.Mark.{Mark}
 use Rattle.reader.specs.Marks.{rows_at, left}
 use Rattle.reader.proofs.Sighted.{mark_out, mark_forged, mark_done, mark_past, mark_unknown}

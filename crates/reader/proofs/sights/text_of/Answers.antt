@@ -1,4 +1,4 @@
-use Rattle.std.proofs.Common.{◌≡◌, ℕ, suc, ◌+◌, ◌-◌, List, get_or, take, drop, sym, ap, ◌∙◌, subst, ap₂, arith}
+use Rattle.std.proofs.Common.{◌≡◌, ℕ, suc, ◌+◌, ◌-◌, get_or, take, drop, sym, ap, ◌∙◌, ap₂, arith}
 use Rattle.grammar.specs.declared.table.Layout.{Layout}
 use Rattle.grammar.specs.Grammar.{Row as Told}
 use Rattle.grammar.specs.Reading.{is_text}

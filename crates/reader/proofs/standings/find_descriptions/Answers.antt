@@ -1,6 +1,6 @@
-use Rattle.std.proofs.Common.{◌≡◌, ℕ, length, sym, refl, ap, ◌∙◌, arith, eqb-true}
+use Rattle.std.proofs.Common.{length, sym, ap, ◌∙◌, arith, eqb-true}
 use Rattle.grammar.specs.Offsets.{ends}
-use Rattle.grammar.specs.Walk.{Stretch, data_from}
+use Rattle.grammar.specs.Walk.{Stretch}
 use Rattle.grammar.proofs.Walked.{data_none, data_past, data_here, data_other}
 use Rattle.reader.proofs.standings.find_descriptions.Goals as goal
 

@@ -1,6 +1,5 @@
-use Rattle.std.proofs.Common.{◌≡◌, ℕ, ◌+◌, true, false, sym, ap, ◌∙◌, arith}
+use Rattle.std.proofs.Common.{true, false, ap, ◌∙◌, arith}
 use Rattle.grammar.specs.declared.table.Layout.{Layout}
-use Rattle.grammar.specs.Format.{layout}
 use Rattle.fields.specs.Told.{numbers_at}
 use Rattle.reader.proofs.Passed.{room_some, room_short, on_globe}
 use Rattle.reader.proofs.Stood.{known_short, known_off, known_on}

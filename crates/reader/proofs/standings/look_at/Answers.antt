@@ -1,4 +1,4 @@
-use Rattle.std.proofs.Common.{◌≡◌, sym, ap, ◌∙◌, arith}
+use Rattle.std.proofs.Common.{◌∙◌, arith}
 use Rattle.reader.proofs.Stood.{stand_forged, stand_done, stand_past, stand_unknown, stand_known}
 use Rattle.reader.proofs.standings.look_at.Goals as goal
 

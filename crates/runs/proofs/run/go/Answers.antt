@@ -1,4 +1,4 @@
-use Rattle.std.proofs.Common.{◌≡◌, ◌+◌, ◌<◌, ◌≤◌, length, sym, refl, ap, ◌∙◌, arith, rules}
+use Rattle.std.proofs.Common.{◌≡◌, ◌+◌, ◌<◌, ◌≤◌, length, refl, arith, rules}
 use Rattle.sheet.specs.Kept.{size_of}
 use Rattle.runs.proofs.Running.{blank_call, begun, nothing_shown, nothing_written, rooms_within, rooms_more, tied_more, shown_more, written_then, all_run}
 use Rattle.runs.proofs.run.go.Goals as goal

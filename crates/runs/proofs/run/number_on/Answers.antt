@@ -1,4 +1,4 @@
-use Rattle.std.proofs.Common.{◌≡◌, refl, ap, ◌∙◌, w32}
+use Rattle.std.proofs.Common.{refl, ap, ◌∙◌, w32}
 use Rattle.std.proofs.lemmas.Int.{to_z-of_z}
 use Rattle.grammar.specs.Sheet as S
 use Rattle.grammar.specs.Sheet.{number, judge_number}

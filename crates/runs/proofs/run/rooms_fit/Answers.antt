@@ -1,4 +1,4 @@
-use Rattle.std.proofs.Common.{◌≡◌, ◌<◌, ◌≤◌, arith}
+use Rattle.std.proofs.Common.{arith}
 use borrow.Author.Tests.{lt-false, le-true}
 use Rattle.runs.proofs.Running.{blank_call, rooms_here, rooms_none}
 use Rattle.runs.proofs.run.rooms_fit.Goals as goal

@@ -1,4 +1,4 @@
-use Rattle.std.proofs.Common.{◌≡◌, ◌+◌, ◌≤◌, map, drop}
+use Rattle.std.proofs.Common.{◌≡◌, ◌+◌, map, drop}
 use Rattle.runs.specs.Scripts.{called, rooms}
 use Rattle.runs.proofs.run.rooms_fit.Given as goal
 

@@ -1,4 +1,4 @@
-use Rattle.std.proofs.Common.{◌≡◌, Bool, sym, ap, ◌∙◌, subst}
+use Rattle.std.proofs.Common.{Bool, sym, ap, ◌∙◌, subst}
 use Rattle.grammar.specs.Sheet as S
 use Rattle.grammar.specs.Sheet.{judge}
 use Rattle.sheet.specs.Kept.{rows_held, rows_open, size_of}

@@ -1,12 +1,11 @@
 use Rattle.std.proofs.Common.{◌≡◌, ◌+◌, ◌≤◌, ◌++◌, map, length, get_or, take, drop, string_bytes, sym, ap, ◌∙◌, arith, rules}
 use Rattle.std.proofs.lemmas.List.{append-nil}
-use Rattle.std.proofs.lemmas.Result.{IfOk-at_ok}
 use Rattle.grammar.specs.Sheet.{room_in}
 use Rattle.runs.specs.declared.script.Answer.TheVariants.{Done}
 use Rattle.listing.proofs.Writing.{line_more}
 use Rattle.scripts.specs.Answered.{answer_text}
 use Rattle.scripts.specs.Played.{asked_call, sent_size, lines_from}
-use Rattle.scripts.proofs.Playing.{lines_here, lines_none, rooms_here, rooms_none}
+use Rattle.scripts.proofs.Playing.{lines_here, lines_none, rooms_here}
 use Rattle.scripts.proofs.played.list_answers.Goals as goal
 
 pub overflow_add-at : goal.overflow_add-at

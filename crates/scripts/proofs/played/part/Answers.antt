@@ -1,4 +1,4 @@
-use Rattle.std.proofs.Common.{◌≡◌, length, take, drop, sym, ap, ◌∙◌, arith}
+use Rattle.std.proofs.Common.{take, drop, sym, ap, ◌∙◌, arith}
 use Rattle.std.proofs.lemmas.List.{drop_all, take_all, take_rest, length-drop}
 use Rattle.scripts.proofs.Playing.{take_none}
 use Rattle.scripts.proofs.played.part.Goals as goal

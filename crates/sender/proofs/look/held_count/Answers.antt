@@ -1,7 +1,5 @@
-use Rattle.std.proofs.Common.{◌≡◌, ◌+◌, arith}
-use Rattle.grammar.specs.Flat.{held_count}
+use Rattle.std.proofs.Common.{arith}
 use Rattle.grammar.specs.Grammar.{Rows}
-use Rattle.sender.specs.Heads.{one_deeper}
 use Rattle.sender.proofs.Looked.{count_none, count_end, count_turn}
 use Rattle.sender.proofs.look.held_count.Goals as goal
 

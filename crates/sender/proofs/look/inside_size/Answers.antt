@@ -1,7 +1,5 @@
-use Rattle.std.proofs.Common.{◌≡◌, ◌+◌, arith}
-use Rattle.grammar.specs.Flat.{inside_size}
+use Rattle.std.proofs.Common.{arith}
 use Rattle.grammar.specs.Grammar.{Rows}
-use Rattle.sender.specs.Heads.{own_long}
 use Rattle.sender.proofs.Looked.{inside_none, inside_end, inside_turn}
 use Rattle.sender.proofs.look.inside_size.Goals as goal
 

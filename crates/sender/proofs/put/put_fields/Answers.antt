@@ -1,4 +1,4 @@
-use Rattle.std.proofs.Common.{◌≡◌, ℕ, ◌-◌, List, length, take, drop, ℤ, refl, ◌∙◌, ap₂, arith, w32}
+use Rattle.std.proofs.Common.{ℕ, ◌-◌, List, length, take, drop, ℤ, refl, ◌∙◌, ap₂, arith, w32}
 use Rattle.std.proofs.lemmas.Int.{to_z-of_z}
 use Rattle.grammar.specs.Format.{fixed}
 use Rattle.location.specs.Answers.{laid_over}

@@ -1,10 +1,9 @@
-use Rattle.std.proofs.Common.{◌≡◌, ℕ, ◌+◌, ◌≤◌, true, false, List, ◌∷◌, ◌++◌, length, ℤ, sym, ap, ◌∙◌, subst, ap₂, arith, w32, SFits, rules}
+use Rattle.std.proofs.Common.{◌≡◌, ℕ, ◌+◌, ◌≤◌, true, false, List, length, ℤ, sym, ap, ◌∙◌, subst, ap₂, arith, w32, SFits, rules}
 use Rattle.std.proofs.lemmas.Int.{to_z-of_z}
 use Rattle.grammar.specs.declared.table.Layout.{Layout}
 use Rattle.grammar.specs.Format.{layout, fits, fixed, fixed_bytes}
 use Rattle.grammar.specs.Grammar.{Rows}
 use Rattle.grammar.specs.Reading.{is_text}
-use Rattle.location.specs.declared.Row.{Row}
 use Rattle.location.proofs.Copied.{head_long}
 use Rattle.sender.specs.Splice.{splice}
 use Rattle.sender.proofs.Laid.{fields_long}

@@ -1,5 +1,4 @@
-use Rattle.std.proofs.Common.{◌≡◌, ℕ, ◌+◌, List, [], ◌∷◌, length, sym, refl, ap, ◌∙◌, arith}
-use Rattle.grammar.specs.Flat.{language_part}
+use Rattle.std.proofs.Common.{ℕ, ◌+◌, List, [], ◌∷◌, length, sym, ap, ◌∙◌, arith}
 use Rattle.sender.specs.Splice.{splice}
 use Rattle.sender.proofs.Spliced.{splice_none}
 use Rattle.sender.proofs.Headed.{part_none, part_said, three_bytes}

@@ -1,4 +1,4 @@
-use Rattle.std.proofs.Common.{◌≡◌, ℕ, ◌+◌, List, [], ◌∷◌, ◌++◌, length, sym, refl, ap, ◌∙◌, arith, length-append}
+use Rattle.std.proofs.Common.{ℕ, ◌+◌, List, ◌∷◌, ap, ◌∙◌, arith, length-append}
 use Rattle.grammar.specs.Flat.{language_part}
 use Rattle.location.specs.Answers.{head_text}
 use Rattle.sender.specs.Splice.{splice}

@@ -1,9 +1,8 @@
-use Rattle.std.proofs.Common.{◌≡◌, ℕ, suc, ◌+◌, ◌^◌, ◌<◌, List, ◌∷◌, ◌++◌, length, sym, ap, ◌∙◌, subst, ap₂, arith}
+use Rattle.std.proofs.Common.{◌≡◌, ℕ, ◌+◌, ◌^◌, ◌<◌, List, ◌∷◌, ◌++◌, sym, ap, ◌∙◌, subst, ap₂, arith}
 use Rattle.grammar.specs.declared.table.Layout.{Layout}
 use Rattle.grammar.specs.Format.{layout, big}
 use Rattle.grammar.specs.Grammar.{Rows}
 use Rattle.grammar.specs.Flat.{inside_size}
-use Rattle.location.specs.declared.Row.{Row}
 use Rattle.sender.specs.Splice.{splice}
 use Rattle.sender.specs.Heads.{front_at, head_bytes, front_long}
 use Rattle.sender.proofs.Spliced.{length_big_is}

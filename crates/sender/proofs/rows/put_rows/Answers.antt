@@ -1,4 +1,4 @@
-use Rattle.std.proofs.Common.{◌≡◌, ℕ, ◌+◌, List, [], length, sym, ap, ◌∙◌, arith}
+use Rattle.std.proofs.Common.{◌≡◌, ℕ, [], length, sym, ap, ◌∙◌, arith}
 use Rattle.grammar.specs.Grammar.{Rows}
 use Rattle.grammar.specs.Flat.{flat}
 use Rattle.sender.specs.Splice.{splice}

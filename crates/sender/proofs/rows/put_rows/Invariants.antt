@@ -1,4 +1,4 @@
-use Rattle.std.proofs.Common.{◌≡◌, ◌+◌, ◌≤◌, length}
+use Rattle.std.proofs.Common.{◌≡◌, ◌+◌, length}
 use Rattle.grammar.specs.Flat.{flat}
 use Rattle.sender.specs.Splice.{splice}
 use Rattle.sender.specs.Writable.{Writable}

@@ -1,4 +1,4 @@
-use Rattle.std.proofs.Common.{refl, arith}
+use Rattle.std.proofs.Common.{refl}
 use Rattle.location.specs.Answers.{head_text}
 use Rattle.sender.proofs.Laid.{copied_there}
 use Rattle.sender.proofs.rows.put_text.Goals as goal

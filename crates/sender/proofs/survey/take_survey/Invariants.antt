@@ -1,4 +1,4 @@
-use Rattle.std.proofs.Common.{◌≡◌, length}
+use Rattle.std.proofs.Common.{length}
 use Rattle.sender.proofs.Underway.{Underway}
 use Rattle.sender.proofs.survey.take_survey.Given as goal
 

@@ -1,4 +1,4 @@
-use Rattle.std.proofs.Common.{◌<◌, ◌≤◌, arith}
+use Rattle.std.proofs.Common.{arith}
 use borrow.Author.Tests.{not-true, not-false}
 use Rattle.sheet.proofs.Judges.{by_place, by_nodes, by_fit, by_many, by_cost, by_none}
 use Rattle.sheet.proofs.judge.judge_row.Goals as goal

@@ -1,4 +1,4 @@
-use Rattle.std.proofs.Common.{◌≡◌, ℕ, ◌+◌, ◌-◌, get_or, ap, ◌∙◌, arith}
+use Rattle.std.proofs.Common.{◌≡◌, ℕ, ◌+◌, get_or, ap, ◌∙◌, arith}
 use Rattle.sheet.proofs.Placed.{size_at, no_left, no_record}
 use Rattle.sheet.proofs.place.record_end.Goals as goal
 use Rattle.sheet.proofs.place.record_end.Goals.{then-place-eq0-via-then-place-eq0, then-place-eq0-via-else-place-eq0+then-bytes-lt-HEAD, then-place-eq0-via-else-place-eq0+else-bytes-lt-HEAD+then-bytes-place}

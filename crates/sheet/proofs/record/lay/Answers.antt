@@ -1,4 +1,4 @@
-use Rattle.std.proofs.Common.{◌≡◌, ℕ, List, [], ◌∷◌, ◌++◌, ap, ◌∙◌}
+use Rattle.std.proofs.Common.{ℕ, [], ◌∷◌, ◌++◌, ap, ◌∙◌}
 use Rattle.grammar.specs.Format.{twos}
 use Rattle.location.specs.Answers.{seen}
 use Rattle.sheet.specs.Records.{head_of, with_text}

@@ -1,4 +1,4 @@
-use Rattle.std.proofs.Common.{◌≡◌, ℕ, ◌+◌, List, sym, ap, ◌∙◌, subst}
+use Rattle.std.proofs.Common.{ℕ, ◌+◌, List, sym, ap, ◌∙◌, subst}
 use Rattle.reader.specs.Whole.{rows_of}
 use Rattle.tpegloc.specs.Coded.{Restates}
 use Rattle.tpegloc.proofs.Handed.{restated_ok, restated_err, restates_ok, restates_err}

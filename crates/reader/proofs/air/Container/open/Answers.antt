@@ -1,8 +1,8 @@
-use Rattle.std.proofs.Common.{◌≡◌, ℕ, List, [], ◌∷◌, get_or, Ok, Err, Result, sym, refl, ap, ◌∙◌, subst, ap₂}
+use Rattle.std.proofs.Common.{◌≡◌, ℕ, List, [], ◌∷◌, get_or, Err, Result, sym, ap, ◌∙◌, subst, ap₂}
 use Rattle.std.proofs.lemmas.Result.{err_from_is_err_and}
 use Rattle.grammar.specs.declared.fault.ReadFault.{ReadFault}
 use Rattle.grammar.specs.declared.table.Spot.TheVariants.{Descriptions}
-use Rattle.grammar.specs.Grammar.{Rows, Tells}
+use Rattle.grammar.specs.Grammar.{Tells}
 use Rattle.grammar.specs.Reading.{reading}
 use Rattle.grammar.specs.Walk.{rows_from, told_from, data_from}
 use Rattle.grammar.proofs.Exact.{walk_told, fault_read}

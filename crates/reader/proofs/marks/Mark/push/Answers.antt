@@ -1,4 +1,4 @@
-use Rattle.std.proofs.Common.{◌≡◌, ℕ, suc, ◌+◌, List, ◌∷◌, sym, refl, ap, ◌∙◌, arith}
+use Rattle.std.proofs.Common.{◌≡◌, ℕ, suc, ◌+◌, List, ◌∷◌, refl, ap, ◌∙◌, arith}
 use Rattle.grammar.specs.Walk.{Frame as Holder}
 use Rattle.reader.specs.declared.marks.Frame.{Frame}
 use Rattle.reader.specs.Marks.{stack}

@@ -1,4 +1,4 @@
-use Rattle.std.proofs.Common.{◌≡◌, ◌<◌, sym, refl, ap, ◌∙◌, arith}
+use Rattle.std.proofs.Common.{◌<◌, sym, refl, ap, ◌∙◌, arith}
 use Rattle.sheet.specs.Held.{held}
 use Rattle.sheet.specs.Open.{kinds_open, standing}
 use Rattle.sheet.proofs.Stands.{less_stands, close_none, close_some}

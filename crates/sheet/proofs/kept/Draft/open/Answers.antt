@@ -1,4 +1,4 @@
-use Rattle.std.proofs.Common.{◌≡◌, true, not, ◌∷◌, length, sym, refl, ap, ◌∙◌, w32, to_z, of_z}
+use Rattle.std.proofs.Common.{not, length, ap, ◌∙◌, w32, to_z, of_z}
 use Rattle.grammar.specs.declared.table.Layout.{Layout}
 use Rattle.grammar.specs.Reading.{closed}
 use Rattle.grammar.specs.Sheet.{row_of_numbers}

@@ -1,12 +1,10 @@
-use Rattle.std.proofs.Common.{◌≡◌, ℕ, ◌+◌, ◌<◌, ◌≤◌, true, List, [], ◌∷◌, ◌++◌, length, ℤ, Ok, Err, sym, refl, ap, ◌∙◌, arith, w32, to_z, of_z}
+use Rattle.std.proofs.Common.{◌≡◌, ℕ, List, [], ◌∷◌, ◌++◌, length, ℤ, Err, sym, refl, ap, ◌∙◌, arith, w32, to_z, of_z}
 use Rattle.grammar.specs.Grammar.{Row}
 use Rattle.std.proofs.lemmas.Int.{to_z-of_z}
 use Rattle.std.proofs.lemmas.Result.{err_from_is_err_and}
-use Rattle.sheet.specs.declared.judge.Space.{Space}
 use Rattle.sheet.specs.Held.{held}
 use Rattle.sheet.specs.Open.{kinds_open}
-use Rattle.sheet.specs.Judged.{row_verdict, asked_row}
-use Rattle.grammar.specs.Sheet.{judge_row}
+use Rattle.sheet.specs.Judged.{asked_row}
 use Rattle.sheet.proofs.Backs.{back_length}
 use Rattle.sheet.proofs.Stands.{open_few}
 use Rattle.sheet.proofs.Judges.{Passes, passes, judged_store}

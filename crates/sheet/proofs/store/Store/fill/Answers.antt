@@ -1,4 +1,4 @@
-use Rattle.std.proofs.Common.{◌≡◌, ℕ, ◌+◌, ◌≤◌, length, ap, ◌∙◌, arith}
+use Rattle.std.proofs.Common.{ℕ, ◌+◌, ◌≤◌, length, ap, ◌∙◌, arith}
 use Rattle.grammar.specs.Grammar.{Rows, Row as Told}
 use Rattle.location.specs.Answers.{head_text}
 use Rattle.grammar.specs.Sheet.{cost_of}

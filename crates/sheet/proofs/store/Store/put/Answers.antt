@@ -1,4 +1,4 @@
-use Rattle.std.proofs.Common.{◌≡◌, refl, arith, w32, SFits, rules}
+use Rattle.std.proofs.Common.{refl, arith, w32, SFits, rules}
 use Rattle.grammar.specs.Grammar.{Row as Told}
 use Rattle.sheet.specs.Records.{with_text}
 use Rattle.sheet.proofs.Encoded.{rows_more, count_more, cost_more}

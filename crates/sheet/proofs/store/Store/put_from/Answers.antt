@@ -1,4 +1,4 @@
-use Rattle.std.proofs.Common.{◌≡◌, ℕ, ◌+◌, List, ◌++◌, length, take, sym, refl, ap, ◌∙◌, arith, w32, SFits, rules}
+use Rattle.std.proofs.Common.{◌≡◌, ℕ, ◌+◌, List, ◌++◌, length, take, refl, ap, ◌∙◌, arith, w32, SFits, rules}
 use Rattle.grammar.specs.Grammar.{Row as Told}
 use Rattle.location.specs.Answers.{head_text}
 use Rattle.grammar.specs.Sheet.{cost_of}
