@@ -198,6 +198,10 @@ fn run(rt: &HostRuntime) -> anyhow::Result<()> {
     }
 }
 
+// What went wrong is printed in quotes.
 fn main(rt: HostRuntime) -> anyhow::Result<()> {
-    run(&rt)
+    match run(&rt) {
+        Ok(()) => Ok(()),
+        Err(why) => Err(anyhow!(format!(in rt.alloc(); "\"{why}\"")?)),
+    }
 }

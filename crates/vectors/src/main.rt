@@ -5,7 +5,7 @@ mod made;
 mod sending;
 
 use anyhow::anyhow;
-use listing::{list_container, read_hex};
+use listing::list_container;
 use sending::{right_of, size_of, through};
 use std::alloc::{AllocError, Global};
 use std::io::Read;
@@ -44,15 +44,30 @@ impl Tally {
     }
 }
 
+fn hex_value(digit: u8) -> Option<u8> {
+    match digit {
+        b'0'..=b'9' => Some(digit - b'0'),
+        b'A'..=b'F' => Some(digit - b'A' + 10),
+        _ => None,
+    }
+}
+
 // Two digits for each byte, or a dash for no bytes.
 fn parse_bytes(heap: Global, text: &str) -> anyhow::Result<Vec<u8>> {
+    let mut bytes = Vec::new(heap);
     if text == "-" {
-        return Ok(Vec::new(heap));
+        return Ok(bytes);
     }
-    match read_hex(heap, text.as_bytes())? {
-        Some(bytes) => Ok(bytes),
-        None => Err(anyhow!("not hexadecimal")),
+    for pair in text.as_bytes().chunks(2) {
+        let [high, low] = pair else {
+            return Err(anyhow!("half a byte"));
+        };
+        let (Some(high), Some(low)) = (hex_value(*high), hex_value(*low)) else {
+            return Err(anyhow!("not a hexadecimal digit"));
+        };
+        bytes.push((high << 4) | low)?;
     }
+    Ok(bytes)
 }
 
 // `HEX`, `rows: ROW, ROW ..`, `size: ROW, ROW ..` or `through: HEX LAYER ..`.
@@ -176,6 +191,10 @@ fn run(rt: &HostRuntime) -> anyhow::Result<()> {
     Ok(())
 }
 
+// What went wrong is printed in quotes.
 fn main(rt: HostRuntime) -> anyhow::Result<()> {
-    run(&rt)
+    match run(&rt) {
+        Ok(()) => Ok(()),
+        Err(why) => Err(anyhow!(format!(in rt.alloc(); "\"{why}\"")?)),
+    }
 }
