@@ -1,6 +1,7 @@
 -- Kinds by number, by one computed test over the table.
 -- Assumes nothing.
 use Rattle.std.proofs.Common.{◌≡◌, ℕ, ◌+◌, ◌*◌, ◌≤◌, Bool, true, false, cond, not, ◌&&◌, ◌||◌, T, eqb, ltb, leb, sym, refl, ap, ◌∙◌, arith, ltb-false, ltb-true, ne_eqb}
+use Rattle.std.proofs.lemmas.Bool.{true≢false, false≢true}
 use Rattle.grammar.specs.declared.table.Layout.{Layout}
 use Rattle.grammar.specs.Format.{layout, blank}
 use Rattle.grammar.specs.Grammar.{Rows}
@@ -29,8 +30,8 @@ left_out : (x y : Rows) (a b c : Bool) → a ≡ b → cond (not a || c) x y ≡
 left_out x y true true true e = refl
 left_out x y true true false e = refl
 left_out x y false false c e = refl
-left_out x y true false c e = let z : ◌≡◌ {A = ℕ} 0 1 = cc in absurd (omega arith)
-left_out x y false true c e = let z : ◌≡◌ {A = ℕ} 0 1 = cc in absurd (omega arith)
+left_out x y true false c e = absurd (true≢false e)
+left_out x y false true c e = absurd (false≢true e)
 
 pub kinds : KindsByNumber
 kinds =

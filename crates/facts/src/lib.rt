@@ -6,22 +6,16 @@ ghost use Rattle.facts.specs.Defaults.{OpenByLongNames};
 ghost use Rattle.facts.specs.Kinds.{KindsByNumber};
 
 // Which kinds are texts and which count nodes; and the two layers by those numbers.
-pub fn kinds_stand() -> u8
+pub fn kinds_stand()
     ensures { KindsByNumber }
-{
-    0
-}
+{}
 
 // A default is open to choice exactly when every reference name of 252 bytes and more is in it, and the whole keeps its limit.
-pub fn defaults_stand() -> u8
+pub fn defaults_stand()
     ensures { OpenByLongNames }
-{
-    0
-}
+{}
 
 // Eight containers as they come in, what each tells, and what is sent for those rows.
-pub fn columns_stand() -> u8
+pub fn columns_stand()
     ensures { Columns }
-{
-    0
-}
+{}

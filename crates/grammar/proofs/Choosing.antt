@@ -1,7 +1,8 @@
 -- A default stands by what one look over the rows finds; and the chosen one is the one with most texts, the lowest among equals.
 -- Assumes nothing.
 use Rattle.std.proofs.Common.{◌≡◌, ℕ, suc, ◌+◌, ◌*◌, ◌^◌, ◌<◌, ◌≤◌, Bool, true, false, not, ◌&&◌, ◌||◌, eqb, leb, ◌⊎◌, List, [], ◌∷◌, length, Some, None, Option, sym, refl, ap, ◌∙◌, inl, inr, arith, leb-false, leb-true}
-use borrow.Author.Tests.{lt-leb}
+use Rattle.grammar.proofs.Sends.{is_yes_of}
+use Rattle.std.proofs.lemmas.Bool.{lt-leb, or_parts, and_parts, or_right, true≢false}
 use Rattle.grammar.specs.declared.table.Fields.{Fields}
 use Rattle.grammar.specs.declared.table.Fields.TheVariants.{Nothing, Code, Text, Globe, Floor, Count, Radius, Height}
 use Rattle.grammar.specs.Format.{layout, width, fixed_bytes}
@@ -14,9 +15,6 @@ use Rattle.grammar.specs.Choice.{over, tight, any_over, suits, base_size, texts,
 use Rattle.grammar.proofs.Cut.{by_cases}
 use Rattle.grammar.proofs.Chosen.{Most, most_is}
 use Rattle.grammar.proofs.Admitted.{admits_stands}
-
-clash : {X : Type 0} → true ≡ false → X
-clash e = let z : ◌≡◌ {A = ℕ} 0 1 = cc in absurd (omega arith)
 
 -- no more texts are in a language than there are
 pub texts_in_le : (d : ℕ) (rows : List Row) → texts_in d rows ≤ texts rows
@@ -32,7 +30,7 @@ texts_in_le d (r ∷ rs) =
 fields_fixed : (f : Fields) → is_text f ≡ false → fields_size f ≡ fixed_bytes f
 fields_fixed Nothing h = refl
 fields_fixed Code h = refl
-fields_fixed Text h = clash h
+fields_fixed Text h = absurd (true≢false h)
 fields_fixed Globe h = refl
 fields_fixed Floor h = refl
 fields_fixed Count h = refl
@@ -63,7 +61,7 @@ row_fits d r true q (l, t, n) o s =
     (λ e.
     let s' : (not (leb w (length r.text + 4)) || false) ≡ true = rw (q, e) at s in
     by_cases (leb w (length r.text + 4))
-    (λ k. clash (sym (rw k at s')))
+    (λ k. absurd (true≢false (sym (rw k at s'))))
     (λ k. let k' = leb-false w (length r.text + 4) k in (l, t, n, rw e (omega arith))))
 
 row_fits_not : (d : ℕ) (r : Row) (b : Bool) → is_text (layout r.kind).fields ≡ b → RowFits b d r
@@ -74,28 +72,16 @@ row_fits_not d r true q (l, t, n, k) =
     by_cases (eqb r.language d)
     (λ e.
     let k' : length r.text + 1 < w = rw e at k in
-    (rw (q, lt-leb w (length r.text + 1) k'), rw (q, e) (or_true (not (leb w (length r.text + 4))))))
+    (rw (q, lt-leb w (length r.text + 1) k'), rw (q, e) (or_right (not (leb w (length r.text + 4))) true refl)))
     (λ e.
     let k' : length r.text + 4 < w = rw e at k in
     (rw (q, lt-leb w (length r.text + 1) (omega arith)), rw (q, lt-leb w (length r.text + 4) k')))
-  where
-    or_true : (b : Bool) → (b || true) ≡ true
-    or_true true = refl
-    or_true false = refl
-
-or_false : (a b : Bool) → (a || b) ≡ false → (a ≡ false) × (b ≡ false)
-or_false true b h = clash h
-or_false false b h = (refl, h)
-
-and_true : (a b : Bool) → (a && b) ≡ true → (a ≡ true) × (b ≡ true)
-and_true true b h = (refl, h)
-and_true false b h = clash (sym h)
 
 pub rows_fit : (d : ℕ) (rows : List Row) → ByteRows rows → any_over rows ≡ false → suits d rows ≡ true → RowsFit d rows
 rows_fit d [] h o s = tt
 rows_fit d (r ∷ rs) h o s =
-    let o' = or_false (over r) (any_over rs) o in
-    let s' = and_true (not (tight r) || eqb r.language d) (suits d rs) s in
+    let o' = or_parts (over r) (any_over rs) o in
+    let s' = and_parts (not (tight r) || eqb r.language d) (suits d rs) s in
     (row_fits d r (is_text (layout r.kind).fields) refl h.0 o'.0 s'.0, rows_fit d rs h.1 o'.1 s'.1)
 
 pub rows_fit_not : (d : ℕ) (rows : List Row) → RowsFit d rows → (any_over rows ≡ false) × (suits d rows ≡ true)
@@ -105,32 +91,28 @@ rows_fit_not d (r ∷ rs) h =
     let y = rows_fit_not d rs h.1 in
     (rw (x.0, y.0), rw (x.1, y.1))
 
-is_yes_of : {A : Type 0} (x : Dec A) → A → is_yes x ≡ true
-is_yes_of (yes a) b = refl
-is_yes_of (no n) b = absurd (n b)
-
 is_no_of : {A : Type 0} (x : Dec A) → (A → ⊥) → is_yes x ≡ false
 is_no_of (yes a) b = absurd (b a)
 is_no_of (no n) b = refl
 
+pub size_under : (d : ℕ) (rows : List Row) → frame rows + full_size rows ≡ length_under d rows + 3 * texts_in d rows
+size_under d rows = let t = texts_in_le d rows in let f = full_is rows in omega arith
+
 pub stands_by : StandsBy
 stands_by rows d h = go (admits top_level rows) (any_over rows) (suits d rows) (leb (length_under d rows) 65535) refl refl refl refl
   where
-    size : frame rows + full_size rows ≡ length_under d rows + 3 * texts_in d rows
-    size = let t = texts_in_le d rows in let f = full_is rows in omega arith
-
     go : (a o s l : Bool) → admits top_level rows ≡ a → any_over rows ≡ o → suits d rows ≡ s → leb (length_under d rows) 65535 ≡ l
         → stands rows d ≡ ((a && not o) && (s && l))
-    go false o s l qa qo qs ql = is_no_of (stands? rows d) (λ st. clash (sym (admits_stands.1 rows (st.0, st.1)) ∙ qa))
-    go true true s l qa qo qs ql = is_no_of (stands? rows d) (λ st. clash (sym qo ∙ (rows_fit_not d rows st.2).0))
-    go true false false l qa qo qs ql = is_no_of (stands? rows d) (λ st. clash (sym (rows_fit_not d rows st.2).1 ∙ qs))
+    go false o s l qa qo qs ql = is_no_of (stands? rows d) (λ st. absurd (true≢false (sym (admits_stands.1 rows (st.0, st.1)) ∙ qa)))
+    go true true s l qa qo qs ql = is_no_of (stands? rows d) (λ st. absurd (true≢false (sym qo ∙ (rows_fit_not d rows st.2).0)))
+    go true false false l qa qo qs ql = is_no_of (stands? rows d) (λ st. absurd (true≢false (sym (rows_fit_not d rows st.2).1 ∙ qs)))
     go true false true false qa qo qs ql =
         let k = leb-false (length_under d rows) 65535 ql in
-        is_no_of (stands? rows d) (λ st. let m = st.3 in absurd (omega (arith, size)))
+        is_no_of (stands? rows d) (λ st. let m = st.3 in absurd (omega (arith, size_under d rows)))
     go true false true true qa qo qs ql =
         let k = leb-true (length_under d rows) 65535 ql in
         let t = admits_stands.0 rows qa in
-        is_yes_of (stands? rows d) (t.0, t.1, rows_fit d rows h qo qs, omega (arith, size))
+        is_yes_of (stands? rows d) (t.0, t.1, rows_fit d rows h qo qs, omega (arith, size_under d rows))
 
 -- only one number is the highest
 most_one : (test : ℕ → Bool) (w : ℕ → ℕ) (n : ℕ) (o : Option ℕ) → Most test w n o → (d : ℕ) → d < n → test d ≡ true
@@ -154,4 +136,4 @@ none_chosen rows h = go (most (stands rows) (score rows) 256) (most_is (stands r
   where
     go : (o : Option ℕ) → Most (stands rows) (score rows) 256 o → sent rows o ≡ None
     go None l = refl
-    go (Some d) l = clash (sym l.1 ∙ h d l.0)
+    go (Some d) l = absurd (true≢false (sym l.1 ∙ h d l.0))

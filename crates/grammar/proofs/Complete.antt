@@ -1,17 +1,19 @@
 -- The reader accepts every legal container, and gives the rows that it tells.
 -- Assumes nothing.
 use Rattle.std.proofs.Common.{◌≡◌, ℕ, zero, suc, ◌+◌, ◌-◌, ◌^◌, ◌<◌, ◌≤◌, Bool, true, false, not, ◌&&◌, eqb, ltb, List, [], ◌∷◌, ◌++◌, length, get_or, drop, ℤ, pos, None, Ok, sym, refl, ap, ◌∙◌, subst, subst₂, arith, length-append, take_at, drop_at, le-ltb, eq-eqb, ne_eqb}
+use Rattle.std.proofs.Math.Nat.{ne_of_gt}
+use Rattle.std.proofs.lemmas.Bool.{and_left, and_right}
 use Rattle.grammar.specs.declared.table.Spot.TheVariants.{Descriptions, Node, Reference, Place, Modes, Associated, Nowhere}
 use Rattle.grammar.specs.declared.table.Spot.{Spot}
 use Rattle.grammar.specs.declared.table.Fields.{Fields}
-use Rattle.grammar.specs.declared.table.Fields.TheVariants.{Nothing, Text}
+use Rattle.grammar.specs.declared.table.Fields.TheVariants.{Text}
 use Rattle.grammar.specs.Format.{width, layout, kind_at, big, header, fixed, Fit}
 use Rattle.grammar.specs.Grammar.{Row, Tail, TailLegal, tail_bytes, said, Parts, none, unknown, named, held, bytes_of, how_many, tell, PartsLegal, PassedOver, deeper, Tops, no_more, passed, described, tops_bytes, TopsLegal, tops_tell, Container, sent_as, Good, told, Tells}
 use Rattle.grammar.specs.Reading.{Read, cut, tail, Reader, component, of_kind, parts, tops, reading, counted, sealed, miscounted, closed, is_text, is_count, least, off_globe}
 use Rattle.grammar.proofs.Numbers.{length_big}
 use Rattle.grammar.proofs.Cut.{pass, go_then, by_cases, cut_complete}
 use Rattle.grammar.proofs.Tails.{tail_complete}
-use Rattle.grammar.proofs.Lines.{counts_agree, text_closed}
+use Rattle.grammar.proofs.Lines.{counts_agree, text_closed, text_known}
 use Rattle.grammar.proofs.Fixed.{no_count, fields_read}
 
 frame_size : (s : Spot) (id : ℕ) (body rest : List ℕ) → length ((header s id (length body) ++ body) ++ rest) ≡ suc (width s) + (length body + length rest)
@@ -65,16 +67,11 @@ is_open Modes h = refl
 is_open Associated h = absurd h
 is_open Nowhere h = absurd h
 
-pub text_known : (k : ℕ) → (layout k).fields ≡ Text → k ≡ 0 → ⊥
-text_known k h e =
-    let no_text : ◌≡◌ {A = Fields} Nothing Text = subst (λ (j : ℕ). (layout j).fields ≡ Text) e h in
-    let z : ◌≡◌ {A = ℕ} 0 1 = cc in omega arith
-
 -- nothing stands nowhere
 none_nowhere : (n : ℕ) (p : Parts) → PartsLegal Nowhere n p → bytes_of Nowhere p ≡ []
 none_nowhere n none h = refl
 none_nowhere n (unknown id bs rest) h = absurd h.0
-none_nowhere n (named k t tail rest) h = absurd (text_known k h.1 (sym h.0))
+none_nowhere n (named k t tail rest) h = absurd (ne_of_gt (text_known k h.1) (sym h.0))
 none_nowhere n (held k a b inner rest) h = let e : 0 ≡ k = h.0 in let l : 0 < k = h.1 in absurd (omega arith)
 
 nothing_nowhere : (s : Spot) (n : ℕ) (p : Parts) → closed s ≡ true → PartsLegal s n p → bytes_of s p ≡ []
@@ -86,13 +83,6 @@ known : (d : ℕ) (read : Reader) (k depth level n at from : ℕ) (body : List �
     → component d read (layout k).fields (layout k).inside k depth level n at from body ≡ r → of_kind d read k depth level n at from body ≡ r
 known d read k depth level n at from body r z h = rw (ne_eqb k 0 z) h
 
-and_no : (a b : Bool) → (b ≡ false) → (a && b) ≡ false
-and_no true b h = h
-and_no false b h = refl
-
-no_and : (a b : Bool) → (a ≡ false) → (a && b) ≡ false
-no_and a b h = rw h
-
 component_text : (d : ℕ) (read : Reader) (inside : Spot) (k depth level n at from : ℕ) (t : List ℕ) (tl : Tail)
     → deeper inside n ≤ 8 → TailLegal false tl
     → component d read Text inside k depth level n at from ((length t ∷ t) ++ tail_bytes tl)
@@ -102,7 +92,7 @@ component_text d read inside k depth level n at from t tl deep legal =
     let r = tail_complete tl (suc (length ((length t ∷ t) ++ tail_bytes tl))) (suc level) None (from + suc (length t)) (omega arith) legal in
     pass (ltb 8 (deeper inside n)) _ _ (le-ltb 8 _ deep)
     (pass (ltb (length ((length t ∷ t) ++ tail_bytes tl)) (suc (length t))) _ _ (le-ltb _ _ (omega arith))
-    (pass ((closed inside && false) && not (eqb (length ((length t ∷ t) ++ tail_bytes tl)) (suc (length t)))) _ _ (no_and _ _ (and_no (closed inside) false refl))
+    (pass ((closed inside && false) && not (eqb (length ((length t ∷ t) ++ tail_bytes tl)) (suc (length t)))) _ _ (and_left _ _ (and_right (closed inside) false refl))
     (go_then (tail (suc (length ((length t ∷ t) ++ tail_bytes tl))) (suc level) None (from + suc (length t)) (drop (length t) (t ++ tail_bytes tl))) _ {x = r.0}
     (rw (drop_at t (tail_bytes tl) (length t) refl) r.1)
     (rw (take_at t (tail_bytes tl) (length t) refl, r.2 d)))))
@@ -121,8 +111,8 @@ component_held d read f inside k depth level n at from a b m rest inner deep fit
     (pass (ltb (length (fixed f a b m ++ rest)) (least f (fixed f a b m ++ rest))) _ _ (le-ltb _ _ (omega arith))
     (pass ((closed inside && not (is_text f)) && not (eqb (length (fixed f a b m ++ rest)) (least f (fixed f a b m ++ rest)))) _ _
     (by_cases (closed inside)
-    (λ q. and_no (closed inside && not (is_text f)) _ (ap not (eq-eqb _ _ (let z : length rest ≡ 0 = ap length (end q) in omega arith))))
-    (λ q. no_and _ _ (no_and _ _ q)))
+    (λ q. and_right (closed inside && not (is_text f)) _ (ap not (eq-eqb _ _ (let z : length rest ≡ 0 = ap length (end q) in omega arith))))
+    (λ q. and_left _ _ (and_left _ _ q)))
     (pass (off_globe f (fixed f a b m ++ rest)) _ _ w.on_globe
     (rw w.no_text
     (go_then (read inside at (get_or (fixed f a b m ++ rest) 0 0) (suc depth) (suc level) (deeper inside n) (from + least f (fixed f a b m ++ rest)) (drop (least f (fixed f a b m ++ rest)) (fixed f a b m ++ rest))) _ {x = inner}
@@ -142,7 +132,7 @@ module _ (d : ℕ) (read : Reader) (s : Spot) (k depth level n at from : ℕ) (i
   named_complete t tl txt deep legal =
       let g = closed_level (layout k).inside n (text_closed k (ap is_text txt)) in
       let r = component_text d read (layout k).inside k depth level n at from t tl (omega arith) legal in
-      of_that_kind ((length t ∷ t) ++ tail_bytes tl) _ (text_known k txt)
+      of_that_kind ((length t ∷ t) ++ tail_bytes tl) _ (ne_of_gt (text_known k txt))
       (subst
       (λ (f : Fields). component d read f (layout k).inside k depth level n at from ((length t ∷ t) ++ tail_bytes tl)
       ≡ Ok (record { depth = depth; kind = k; a = pos 0; b = pos 0; language = said d tl; text = t } ∷ []))
@@ -156,13 +146,13 @@ parts_complete none d (suc f) s own c depth level n at l deep h count =
 parts_complete (unknown id bs rest) d (suc f) s own c depth level n at l deep h count =
     let z = frame_size s id bs (bytes_of s rest) in
     parts_step d f s own c depth level n at id (how_many rest) bs (bytes_of s rest) [] (tell d depth rest) h.4 count
-    (no_and _ _ (is_open s h.0))
+    (and_left _ _ (is_open s h.0))
     (rw h.1)
     (parts_complete rest d f s own (c - 1) depth level n _ (omega arith) deep h.5 (λ q. let y = count q in omega arith))
 parts_complete (named k t tl rest) d (suc f) s own c depth level n at l deep h count =
     let z = frame_size s (layout k).id ((length t ∷ t) ++ tail_bytes tl) (bytes_of s rest) in
     parts_step d f s own c depth level n at (layout k).id (how_many rest) ((length t ∷ t) ++ tail_bytes tl) (bytes_of s rest) _ (tell d depth rest) h.5 count
-    (and_no (sealed s) _ (rw h.0 (ne_eqb k 0 (text_known k h.1))))
+    (and_right (sealed s) _ (rw h.0 (ne_eqb k 0 (ne_of_gt (text_known k h.1)))))
     (named_complete d (parts d f) s k depth level n at (at + suc (width s)) h.0 t tl h.1 deep h.4)
     (parts_complete rest d f s own (c - 1) depth level n _ (omega arith) deep h.6 (λ q. let y = count q in omega arith))
 parts_complete (held k a b inner rest) d (suc f) s own c depth level n at l deep h count =
@@ -172,7 +162,7 @@ parts_complete (held k a b inner rest) d (suc f) s own c depth level n at l deep
     let pos : 0 < k = h.1 in
     let apart : k ≡ 0 → ⊥ = omega arith in
     parts_step d f s own c depth level n at (layout k).id (how_many rest) body (bytes_of s rest) _ (tell d depth rest) h.5 count
-    (and_no (sealed s) _ (rw h.0 (ne_eqb k 0 apart)))
+    (and_right (sealed s) _ (rw h.0 (ne_eqb k 0 apart)))
     (of_that_kind d (parts d f) s k depth level n at (at + suc (width s)) h.0 body _ apart
     (component_held d (parts d f) (layout k).fields (layout k).inside k depth level n at (at + suc (width s)) a b (how_many inner)
     (bytes_of (layout k).inside inner) (tell d (suc depth) inner) h.3 h.2

@@ -1,6 +1,7 @@
 -- The fixed fields: what is written reads back, and what is read is written back.
 -- Assumes nothing.
-use Rattle.std.proofs.Common.{◌≡◌, ℕ, suc, ◌-◌, ◌<◌, ◌≤◌, Bool, true, false, ◌||◌, List, [], ◌∷◌, ◌++◌, length, get_or, take, drop, ℤ, pos, negsuc, sym, refl, ap, ◌∙◌, ap₂, append_assoc, arith, length-append, length-drop, take-add, drop_at, ltb-false, le-ltb}
+use Rattle.std.proofs.Common.{◌≡◌, ℕ, suc, ◌-◌, ◌<◌, ◌≤◌, true, false, List, [], ◌∷◌, ◌++◌, length, get_or, take, drop, ℤ, pos, negsuc, sym, refl, ap, ◌∙◌, ap₂, append_assoc, arith, length-append, length-drop, take-add, drop_at, ltb-false, le-ltb}
+use Rattle.std.proofs.lemmas.Bool.{or_parts, true≢false, false≢true}
 use Rattle.grammar.specs.declared.table.Fields.{Fields}
 use Rattle.grammar.specs.declared.table.Fields.TheVariants.{Nothing, Code, Text, Globe, Floor, Count, Radius, Height}
 use Rattle.grammar.specs.Format.{big, twos, fixed, Fit, Between}
@@ -18,23 +19,15 @@ inside_globe : (m : ℕ) (z : ℤ) → beyond m z ≡ false → Between m m z
 inside_globe m (pos x) h = ltb-false m x h
 inside_globe m (negsuc x) h = ltb-false m (suc x) h
 
-or_left : (a b : Bool) → (a || b) ≡ false → a ≡ false
-or_left true b h = h
-or_left false b h = refl
-
-or_right : (a b : Bool) → (a || b) ≡ false → b ≡ false
-or_right true b h = let z : ◌≡◌ {A = ℕ} 0 1 = cc in absurd (omega arith)
-or_right false b h = h
-
 pub fields_written : (f : Fields) (bs : List ℕ) (n : ℕ) → Bytes bs → is_text f ≡ false → least f bs ≤ length bs → off_globe f bs ≡ false
     → (is_count f ≡ true → n ≡ get_or bs 0 0) → Writes f bs n
 fields_written Nothing bs n b t l g c = record { fit = (refl, refl); same = refl }
 fields_written Code bs n b t l g c = record { fit = (number_lt 1 bs b l, refl); same = big_number 1 bs b l }
-fields_written Text bs n b t l g c = let z : ◌≡◌ {A = ℕ} 0 1 = cc in absurd (omega arith)
+fields_written Text bs n b t l g c = absurd (true≢false t)
 fields_written Globe bs n b t l g c =
     let d = length-drop 4 bs in
     record {
-      fit = (inside_globe 18000000 (signed 4 bs) (or_left _ _ g), inside_globe 9000000 (signed 4 (drop 4 bs)) (or_right _ _ g));
+      fit = (inside_globe 18000000 (signed 4 bs) (or_parts _ _ g).0, inside_globe 9000000 (signed 4 (drop 4 bs)) (or_parts _ _ g).1);
       same = ap₂ (λ (x y : List ℕ). x ++ y) (twos_signed 4 2147483648 refl bs b (omega arith)) (twos_signed 4 2147483648 refl (drop 4 bs) (bytes_drop 4 bs b) (omega arith))
           ∙ sym (take-add 4 4 bs);
     }
@@ -63,7 +56,7 @@ module _ (f : Fields) (a b : ℤ) (n : ℕ) (bs : List ℕ) where
     pub counts : is_count f ≡ true → get_or bs 0 0 ≡ n
 
 pub no_count : {X : Type 0} → false ≡ true → X
-no_count h = let z : ◌≡◌ {A = ℕ} 0 1 = cc in absurd (omega arith)
+no_count h = absurd (false≢true h)
 
 narrow : (m h : ℕ) (z : ℤ) → m < h → Between m m z → Between h (h - 1) z
 narrow m h (pos x) l k = omega arith

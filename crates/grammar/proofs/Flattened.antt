@@ -2,6 +2,7 @@
 -- The rows that a tree tells, with others after them, are written as the tree's bytes with the others' after them; and rows that have the shape of a tree
 -- are what their tree tells.
 use Rattle.std.proofs.Common.{◌≡◌, ℕ, suc, ◌+◌, ◌*◌, ◌<◌, ◌≤◌, Bool, true, false, eqb, List, [], ◌∷◌, ◌++◌, length, ℤ, pos, sym, refl, ap, ◌∙◌, subst, append_assoc, append-nil, arith, eqb→eq, length-append}
+use Rattle.grammar.proofs.Numbers.{length_big}
 use native.Mathlib.Decide.{dec_lt}
 use Rattle.grammar.specs.declared.table.Spot.TheVariants.{Descriptions}
 use Rattle.grammar.specs.declared.table.Spot.{Spot}
@@ -12,11 +13,11 @@ use Rattle.grammar.specs.Reading.{if, is_text}
 use Rattle.grammar.specs.Deciding.{Shaped, Sound}
 use Rattle.grammar.specs.Sending.{part, gather, normal, tail_for, spoken_unless, tops_for, texts_in, full_size, frame}
 use Rattle.grammar.specs.Flat.{language_part, front, own_size, inside_size, held_count, row_bytes, flat, flat_container, FlatStands}
-use Rattle.grammar.proofs.Lines.{line_at}
-use Rattle.grammar.proofs.Normal.{on_eqb, length_big, size_named, size_held}
+use Rattle.grammar.proofs.Lines.{line_at, text_known}
+use Rattle.grammar.proofs.Normal.{on_eqb, size_named, size_held}
 use Rattle.grammar.proofs.Gathered.{on_ltb, gather_here, gather_above, gather_below, held_no_text}
 use Rattle.grammar.proofs.Shapes.{tell_gather}
-use Rattle.grammar.proofs.Sizes.{width_is, text_known, fields_size_is, normal_size}
+use Rattle.grammar.proofs.Sizes.{width_is, fields_size_is, normal_size}
 
 -- the column of widths has for each kind the width of its spot
 pub column_width : (k : ℕ) → width (layout k).holder ≡ (layout k).width
@@ -101,7 +102,8 @@ count_ends : (m : ℕ) (rows : List Row) → Ends m rows → held_count m rows �
 count_ends m [] h = refl
 count_ends m (r ∷ rs) h = count_stops 0 m r rs h
 
-part_many : (b : Bool) (r : Row) (inner rest : Parts) → how_many (part b r inner rest) ≡ suc (how_many rest)
+-- a row's component is one more, whatever it holds
+pub part_many : (b : Bool) (r : Row) (inner rest : Parts) → how_many (part b r inner rest) ≡ suc (how_many rest)
 part_many true r inner rest = refl
 part_many false r inner rest = refl
 

@@ -1,5 +1,7 @@
 -- The rows of a legal tree are gathered to that tree, less what it does not tell.
-use Rattle.std.proofs.Common.{◌≡◌, ℕ, suc, ◌<◌, ◌≤◌, Bool, true, false, T, ltb, List, [], ◌∷◌, ◌++◌, ℤ, pos, sym, refl, ap, ◌∙◌, subst, append_assoc, append-nil, arith, le→leb, leb→le}
+use Rattle.std.proofs.Common.{◌≡◌, ℕ, suc, ◌<◌, ◌≤◌, Bool, true, false, ltb, List, [], ◌∷◌, ◌++◌, ℤ, pos, sym, refl, ap, ◌∙◌, subst, append_assoc, append-nil, arith}
+use Rattle.grammar.proofs.Cut.{by_cases}
+use Rattle.std.proofs.lemmas.Bool.{ltb-true, ltb-false}
 use Rattle.grammar.specs.declared.table.Spot.{Spot}
 use Rattle.grammar.specs.declared.table.Fields.{Fields}
 use Rattle.grammar.specs.declared.table.Fields.TheVariants.{Nothing, Code, Text, Globe, Floor, Count, Radius, Height}
@@ -9,12 +11,9 @@ use Rattle.grammar.specs.Reading.{is_text}
 use Rattle.grammar.specs.Sending.{part, gather}
 use Rattle.grammar.proofs.Normal.{on_eqb, full}
 
-on_ltb·at : (P : Bool → Type 0) (m n : ℕ) (b : Bool) → ltb m n ≡ b → (m < n → P true) → ((m < n → ⊥) → P false) → P b
-on_ltb·at P m n true e yes-so not_so = yes-so (leb→le (suc m) n (subst T (sym e) tt))
-on_ltb·at P m n false e yes-so not_so = not_so (λ h. subst T e (le→leb (suc m) n h))
-
 pub on_ltb : (P : Bool → Type 0) (m n : ℕ) → (m < n → P true) → ((m < n → ⊥) → P false) → P (ltb m n)
-on_ltb P m n = on_ltb·at P m n (ltb m n) refl
+on_ltb P m n yes-so not_so =
+    by_cases (ltb m n) (λ q. subst P (sym q) (yes-so (ltb-true m n q))) (λ q. subst P (sym q) (not_so (λ h. let l = ltb-false m n q in omega arith)))
 
 module _ (r : Row) (rs : List Row) where
   abbrev pub here : ℕ → Parts

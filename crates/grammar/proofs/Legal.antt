@@ -1,17 +1,20 @@
 -- A tree is legal under a default where its kinds stand right, its texts fit under that default, and the whole is within its limit.
 use Rattle.std.proofs.Common.{◌≡◌, ℕ, suc, ◌+◌, ◌^◌, ◌<◌, ◌≤◌, Bool, true, false, T, eqb, ◌⊎◌, List, [], ◌∷◌, ◌++◌, length, pos, sym, refl, ap, subst, inl, inr, arith, length-append}
+use Rattle.grammar.proofs.Cut.{by_cases}
+use Rattle.grammar.proofs.Complete.{is_nowhere}
+use Rattle.grammar.proofs.Lines.{all_below, below_at, text_known}
 use Rattle.grammar.specs.declared.table.Spot.TheVariants.{Descriptions, Node, Reference, Place, Modes, Associated, Nowhere}
 use Rattle.grammar.specs.declared.table.Spot.{Spot}
 use Rattle.grammar.specs.declared.table.Fields.{Fields}
 use Rattle.grammar.specs.declared.table.Fields.TheVariants.{Nothing, Code, Text, Globe, Floor, Count, Radius, Height}
 use Rattle.grammar.specs.Format.{width, layout, fixed, kind_at}
 use Rattle.grammar.specs.Grammar.{Row, Tail, bare, other, spoken, Parts, none, unknown, named, held, tail_bytes, how_many, bytes_of, said, tell, Byte, TailLegal, deeper, PartsLegal}
-use Rattle.grammar.specs.Reading.{is_text}
+use Rattle.grammar.specs.Reading.{is_text, closed}
 use Rattle.grammar.specs.Deciding.{Sound, text_frame, RowFits, RowsFit}
 use Rattle.grammar.specs.Sending.{spoken_unless, tail_for, normal, fields_size}
 use Rattle.grammar.proofs.Normal.{on_eqb, at_most, tail_shortens, size_named, size_held, normal_fewer, fit_fewer}
 use Rattle.grammar.proofs.Gathered.{held_no_text}
-use Rattle.grammar.proofs.Sizes.{kind_below, all_below, below, width_is, text_known, fields_size_is}
+use Rattle.grammar.proofs.Sizes.{kind_below, width_is, fields_size_is}
 
 said_byte : (d : ℕ) (b : Bool) (t : Tail) → Byte d → TailLegal b t → Byte (said d t)
 said_byte d b bare h l = h
@@ -54,32 +57,14 @@ tell_fits d s k n (held kind a b inner rest) h l =
     )
 
 -- a component whose length has one byte holds no parts
-abbrev is_nowhere : Spot → Bool
-is_nowhere Descriptions = false
-is_nowhere Node = false
-is_nowhere Reference = false
-is_nowhere Place = false
-is_nowhere Modes = false
-is_nowhere Associated = false
-is_nowhere Nowhere = true
-
-nowhere_is : (s : Spot) → T (is_nowhere s) → s ≡ Nowhere
-nowhere_is Descriptions h = absurd h
-nowhere_is Node h = absurd h
-nowhere_is Reference h = absurd h
-nowhere_is Place h = absurd h
-nowhere_is Modes h = absurd h
-nowhere_is Associated h = absurd h
-nowhere_is Nowhere h = refl
-
 abbrev flat : Spot → ℕ → Bool
-flat s k = elim (eqb (kind_at s (layout k).id) k) [ false ↦ true | true ↦ is_nowhere (layout k).inside ]
+flat s k = elim (eqb (kind_at s (layout k).id) k) [ false ↦ true | true ↦ closed (layout k).inside ]
 
 holds_none : (s : Spot) (k : ℕ) → T (all_below (flat s) 28) → kind_at s (layout k).id ≡ k → (layout k).inside ≡ Nowhere
 holds_none s k c e =
     let b : k < 28 = subst (λ (x : ℕ). x < 28) e (kind_below s (layout k).id) in
-    on_eqb (λ x. T (elim x [ false ↦ true | true ↦ is_nowhere (layout k).inside ]) → (layout k).inside ≡ Nowhere)
-    (kind_at s (layout k).id) k (λ q t. nowhere_is (layout k).inside t) (λ n. absurd (n e)) (below (flat s) 28 c k b)
+    on_eqb (λ x. T (elim x [ false ↦ true | true ↦ closed (layout k).inside ]) → (layout k).inside ≡ Nowhere)
+    (kind_at s (layout k).id) k (λ q t. by_cases (closed (layout k).inside) (is_nowhere (layout k).inside) (λ c. absurd (subst T c t))) (λ n. absurd (n e)) (below_at (flat s) 28 c k b)
 
 narrow : (s : Spot) (k : ℕ) → kind_at s (layout k).id ≡ k → (256 ^ width s ≡ 65536) ⊎ ((256 ≤ 256 ^ width s) × ((layout k).inside ≡ Nowhere))
 narrow Descriptions k e = inl refl
@@ -90,7 +75,7 @@ narrow Modes k e = inr (omega arith, holds_none Modes k tt e)
 narrow Associated k e = inl refl
 narrow Nowhere k e = inr (omega arith, holds_none Nowhere k tt e)
 
-none_nowhere : (n : ℕ) (p : Parts) → Sound Nowhere n p → p ≡ none
+pub none_nowhere : (n : ℕ) (p : Parts) → Sound Nowhere n p → p ≡ none
 none_nowhere n none l = refl
 none_nowhere n (unknown id bs rest) l = absurd l
 none_nowhere n (named k t tail rest) l = let e : 0 ≡ k = l.0 in let h : 0 < k = text_known k l.1 in absurd (omega arith)

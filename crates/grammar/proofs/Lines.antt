@@ -1,6 +1,7 @@
 -- What the table of kinds obeys, by one computed test over it.
 -- Assumes nothing.
 use Rattle.std.proofs.Common.{◌≡◌, ℕ, zero, suc, ◌+◌, ◌<◌, ◌≤◌, Bool, true, false, not, ◌&&◌, ◌||◌, T, eqb, ltb, List, [], ◌∷◌, get_or, sym, refl, ap, ◌∙◌, subst, inl, inr, ⊎_elim, arith, eqb→eq, ltb-false, ltb-true, eqb-true}
+use Rattle.std.proofs.lemmas.Bool.{eqb-false}
 use Rattle.grammar.specs.declared.table.Spot.TheVariants.{Descriptions, Node, Reference, Place, Modes, Associated, Nowhere}
 use Rattle.grammar.specs.declared.table.Spot.{Spot}
 use Rattle.grammar.specs.declared.table.Fields.{Fields}
@@ -13,7 +14,6 @@ use Rattle.grammar.specs.Format.{width, fixed_bytes}
 use Rattle.grammar.specs.Offsets as O
 use Rattle.grammar.specs.Checks.{leafy}
 use Rattle.grammar.specs.Theorems.{StandsAt, FoundByLine, FoundById, FixedByFields}
-use borrow.Author.Tests.{eqb-false}
 use Rattle.grammar.proofs.Cut.{by_cases}
 
 pub both_left : (a b : Bool) → T (a && b) → T a
@@ -33,7 +33,7 @@ below_at t zero p i h = absurd (omega arith)
 below_at t (suc n) p i h =
     by_cases (eqb i n)
     (λ q. subst (λ (j : ℕ). T (t j)) (sym (eqb-true i n q)) (both_left (t n) (all_below t n) p))
-    (λ q. below_at t n (both_right (t n) (all_below t n) p) i (omega (arith, borrow.Author.Tests.eqb-false i n q)))
+    (λ q. below_at t n (both_right (t n) (all_below t n) p) i (omega (arith, eqb-false i n q)))
 
 -- a known identifier's kind stands in the table under that identifier
 pub kind_id : (s : Spot) (i : ℕ) → (kind_at s i ≡ 0 → ⊥) → (layout (kind_at s i)).id ≡ i
@@ -44,6 +44,10 @@ kind_id Place i h = by_cases (ltb i 2) (λ q. rw (q, kind_at) (eqb→eq _ _ (bel
 kind_id Modes i h = by_cases (eqb i 0) (λ q. rw (q, kind_at) (sym (eqb-true i 0 q))) (λ q. absurd (h (rw (q, kind_at))))
 kind_id Associated i h = by_cases (eqb i 2) (λ q. rw (q, kind_at) (sym (eqb-true i 2 q))) (λ q. absurd (h (rw (q, kind_at))))
 kind_id Nowhere i h = absurd (h refl)
+
+pub text_known : (k : ℕ) → (layout k).fields ≡ Text → 0 < k
+text_known zero e = absurd (subst (λ (f : Fields). T (not (is_text f))) e tt)
+text_known (suc k) e = omega arith
 
 abbrev pub all_lines : (Layout → Bool) → List Layout → Bool
 all_lines t [] = true
@@ -71,7 +75,7 @@ counts_agree k = same_eq _ _ (line_at (λ (l : Layout). same (counted l.inside) 
 implied : (a b : Bool) → T (not a || b) → a ≡ true → b ≡ true
 implied true true t q = refl
 implied true false t q = absurd t
-implied false b t q = let z : ◌≡◌ {A = ℕ} 0 1 = cc in absurd (omega arith)
+implied false b t q = cc
 
 pub text_closed : (k : ℕ) → is_text (layout k).fields ≡ true → closed (layout k).inside ≡ true
 text_closed k = implied _ _ (line_at (λ (l : Layout). not (is_text l.fields) || closed l.inside) blank tt table tt k)
@@ -210,7 +214,7 @@ least_fixed bs k i t = go (layout k).fields t ∙ sym (fixed_by_fields k)
     go : (f : Fields) → is_text f ≡ false → O.least bs f i ≡ fixed_bytes f
     go Nothing h = refl
     go Code h = refl
-    go Text h = let z : ◌≡◌ {A = ℕ} 0 1 = cc in absurd (omega arith)
+    go Text h = cc
     go Globe h = refl
     go Floor h = refl
     go Count h = refl
@@ -221,11 +225,11 @@ pub least_text : (bs : List ℕ) (k i : ℕ) → is_text (layout k).fields ≡ t
 least_text bs k i t = go (layout k).fields t ∙ ap (λ (n : ℕ). n + get_or bs i 0) (sym (fixed_by_fields k))
   where
     go : (f : Fields) → is_text f ≡ true → O.least bs f i ≡ fixed_bytes f + get_or bs i 0
-    go Nothing h = let z : ◌≡◌ {A = ℕ} 0 1 = cc in absurd (omega arith)
-    go Code h = let z : ◌≡◌ {A = ℕ} 0 1 = cc in absurd (omega arith)
+    go Nothing h = cc
+    go Code h = cc
     go Text h = refl
-    go Globe h = let z : ◌≡◌ {A = ℕ} 0 1 = cc in absurd (omega arith)
-    go Floor h = let z : ◌≡◌ {A = ℕ} 0 1 = cc in absurd (omega arith)
-    go Count h = let z : ◌≡◌ {A = ℕ} 0 1 = cc in absurd (omega arith)
-    go Radius h = let z : ◌≡◌ {A = ℕ} 0 1 = cc in absurd (omega arith)
-    go Height h = let z : ◌≡◌ {A = ℕ} 0 1 = cc in absurd (omega arith)
+    go Globe h = cc
+    go Floor h = cc
+    go Count h = cc
+    go Radius h = cc
+    go Height h = cc

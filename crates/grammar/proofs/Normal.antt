@@ -1,21 +1,20 @@
 -- The normal tree under a default: no unknown component, and of each text's tail a language part exactly where its language is not the default.
-use Rattle.std.proofs.Common.{◌≡◌, ℕ, zero, suc, ◌+◌, ◌<◌, ◌≤◌, Bool, true, false, T, eqb, ◌⊎◌, List, [], ◌∷◌, ◌++◌, length, ℤ, pos, sym, refl, ap, subst, inl, inr, arith, eqb→eq, length-append}
-use lib.Dec.{eqb_refl}
+use Rattle.std.proofs.Common.{◌≡◌, ℕ, suc, ◌+◌, ◌<◌, ◌≤◌, Bool, true, false, eqb, ◌⊎◌, List, [], ◌∷◌, ◌++◌, length, ℤ, pos, sym, refl, subst, inl, inr, arith, length-append}
+use Rattle.grammar.proofs.Numbers.{length_big}
+use Rattle.grammar.proofs.Cut.{by_cases}
+use Rattle.std.proofs.lemmas.Bool.{eqb-true, eqb-false}
 use Rattle.grammar.specs.declared.table.Spot.{Spot}
 use Rattle.grammar.specs.declared.table.Fields.{Fields}
 use Rattle.grammar.specs.declared.table.Fields.TheVariants.{Nothing, Code, Text, Globe, Floor, Count, Radius, Height}
-use Rattle.grammar.specs.Format.{width, layout, header, fixed, Fit, big}
+use Rattle.grammar.specs.Format.{width, layout, header, fixed, Fit}
 use Rattle.grammar.specs.Grammar.{Tail, bare, other, spoken, Parts, none, unknown, named, held, tail_bytes, how_many, bytes_of, said, tell, deeper, PartsLegal}
 use Rattle.grammar.specs.Sending.{spoken_unless, tail_for, normal}
 use Rattle.grammar.specs.Deciding.{Sound}
 
 -- a goal on the test of two numbers, by whether they are equal
-on_eqb·at : (P : Bool → Type 0) (m n : ℕ) (b : Bool) → eqb m n ≡ b → (m ≡ n → P true) → ((m ≡ n → ⊥) → P false) → P b
-on_eqb·at P m n true e yes-so not_so = yes-so (eqb→eq m n (subst T (sym e) tt))
-on_eqb·at P m n false e yes-so not_so = not_so (λ h. subst T e (subst (λ (k : ℕ). T (eqb m k)) h (eqb_refl m)))
-
 pub on_eqb : (P : Bool → Type 0) (m n : ℕ) → (m ≡ n → P true) → ((m ≡ n → ⊥) → P false) → P (eqb m n)
-on_eqb P m n = on_eqb·at P m n (eqb m n) refl
+on_eqb P m n yes-so not_so =
+    by_cases (eqb m n) (λ q. subst P (sym q) (yes-so (eqb-true m n q))) (λ q. subst P (sym q) (not_so (eqb-false m n q)))
 
 -- it tells the same
 pub said_tail_for : (d l : ℕ) → said d (tail_for d l) ≡ l
@@ -47,10 +46,6 @@ tail_shortens d (spoken l (other id bs rest)) =
     on_eqb (λ b. Shortens tail_bytes (spoken_unless b l) (spoken l (other id bs rest))) l d (λ e. inl (omega arith)) (λ n. inl (omega arith))
 tail_shortens d (spoken l (spoken m rest)) =
     on_eqb (λ b. Shortens tail_bytes (spoken_unless b l) (spoken l (spoken m rest))) l d (λ e. inl (omega arith)) (λ n. inl (omega arith))
-
-pub length_big : (n x : ℕ) → length (big n x) ≡ n
-length_big zero x = refl
-length_big (suc n) x = ap suc (length_big n x)
 
 pub length_part : (s : Spot) (id n : ℕ) (body rest : List ℕ) → length ((header s id n ++ body) ++ rest) ≡ suc (width s) + length body + length rest
 length_part s id n body rest = simp (length-append, length_big) (omega arith)

@@ -64,11 +64,14 @@ module _ (n : ℕ) (xs : List ℕ) (b : Bytes xs) (h : n ≤ length xs) where
   pub big_number : big n (number n xs) ≡ take n xs
   big_number = rw (length-take-le n xs h) at (big_value (take n xs) (bytes_take n xs b))
 
+pub twos_length : (n : ℕ) (z : ℤ) → length (twos n z) ≡ n
+twos_length n (pos x) = length_big n x
+twos_length n (negsuc x) = length_big n (256 ^ n - suc x)
+
 -- signed numbers, where half of the numbers of n bytes are negative
 module _ (n half : ℕ) (e : 256 ^ n ≡ half * 2) where
   pub length_twos : (z : ℤ) → length (twos n z) ≡ n
-  length_twos (pos x) = length_big n x
-  length_twos (negsuc x) = length_big n (256 ^ n - suc x)
+  length_twos z = twos_length n z
 
   pub signed_twos : (z : ℤ) (rest : List ℕ) → Between half (half - 1) z → 0 < half → signed n (twos n z ++ rest) ≡ z
   signed_twos (pos x) rest h k =

@@ -1,8 +1,8 @@
 -- The reading by offset is the reading.
 -- Assumes nothing.
 use Rattle.std.proofs.Common.{◌≡◌, ℕ, zero, suc, ◌+◌, ◌-◌, ◌*◌, ◌<◌, ◌≤◌, Bool, true, false, not, ◌&&◌, ◌||◌, eqb, ltb, leb, List, [], ◌∷◌, length, get_or, take, drop, ℤ, pos, None, Ok, sym, refl, ap, ◌∙◌, subst, ap₂, arith, ltb-false, lt-ltb, eq-eqb, ne_eqb, eqb-true, leb-false, leb-true}
+use Rattle.std.proofs.lemmas.Bool.{eqb-false, not-false, false≢true}
 use lib.Seq.{slice, slice_empty, slice-cons, length-slice}
-use borrow.Author.Tests.{eqb-false, not-false}
 use Rattle.grammar.specs.declared.table.Spot.TheVariants.{Descriptions, Node, Reference, Place, Modes, Associated, Nowhere}
 use Rattle.grammar.specs.declared.table.Spot.{Spot}
 use Rattle.grammar.specs.declared.table.Fields.{Fields}
@@ -241,9 +241,6 @@ module _ (bs : List ℕ) (d g : ℕ) (same : Same bs d g) where
   component_same' zero k depth level n at i j h l a b = absurd (omega arith)
   component_same' (suc f) k depth level n at i j h l a b = component_same f k depth level n at i j h l a (omega arith)
 
-clash : {X : Type 0} → false ≡ true → X
-clash h = let z : ◌≡◌ {A = ℕ} 0 1 = cc in absurd (omega arith)
-
 miscounted_some : (bs : List ℕ) (c i j : ℕ) → i < j → j ≤ length bs → miscounted true (suc c) (slice i j bs) ≡ false
 miscounted_some bs c i j h l = rw (slice-cons i j bs 0 h l)
 
@@ -274,7 +271,7 @@ module _ (bs : List ℕ) (d g : ℕ) (same : Same bs d g) where
       (λ rows _.
       same_then (O.parts bs d f s depth level n to j)
       (parts d g s own (c - 1) depth level n (i + suc (width s) + length (slice (i + suc (width s)) to bs)) (slice to j bs)) _ _
-      (rw e (same.plain f s own (c - 1) depth level n to j (omega arith) l (omega arith) (omega arith) cnt (λ z. clash (sym open-spot ∙ z))))
+      (rw e (same.plain f s own (c - 1) depth level n to j (omega arith) l (omega arith) (omega arith) cnt (λ z. absurd (false≢true (sym open-spot ∙ z)))))
       (λ more _. refl))))
 
   counting_step : (f own c depth level n i j : ℕ) → i ≤ j → j ≤ length bs → j - i < suc g → j - i < f
@@ -356,7 +353,7 @@ tops_same bs d (suc g) (suc f) seen i h a b =
     (λ _.
     same_then (O.parts bs d (2 * length bs) Descriptions 0 1 0 (i + 3) to)
     (parts d (suc (length (slice (i + 3) to bs))) Descriptions i 0 0 1 0 (i + 3) (slice (i + 3) to bs)) _ _
-    ((all_same bs d (suc (length (slice (i + 3) to bs)))).plain (2 * length bs) Descriptions i 0 0 1 0 (i + 3) to x y (omega arith) (omega arith) refl clash)
+    ((all_same bs d (suc (length (slice (i + 3) to bs)))).plain (2 * length bs) Descriptions i 0 0 1 0 (i + 3) to x y (omega arith) (omega arith) refl (λ z. absurd (false≢true z)))
     (λ rows _.
     same_then (O.tops bs d f true to) (tops d g true (i + 3 + length (slice (i + 3) to bs)) (slice to (length bs) bs)) _ _
     (rw e (tops_same bs d g f true to y (omega arith) (omega arith)))

@@ -114,7 +114,7 @@ slim d (described p rest) h l =
     } in
     subst (Slim d (described p rest)) (sym q) it
 
-is_yes_of : {A : Type 0} (x : Dec A) → A → is_yes x ≡ true
+pub is_yes_of : {A : Type 0} (x : Dec A) → A → is_yes x ≡ true
 is_yes_of (yes a) b = refl
 is_yes_of (no n) b = absurd (n b)
 

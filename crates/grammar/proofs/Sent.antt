@@ -1,6 +1,7 @@
 -- What is sent, by what one look over the rows finds.
 -- Assumes nothing.
 use Rattle.std.proofs.Common.{◌≡◌, ℕ, ◌<◌, ◌≤◌, Bool, true, false, ◌&&◌, leb, ◌⊎◌, List, length, Some, None, sym, refl, ap, ◌∙◌, arith, le-leb}
+use Rattle.std.proofs.lemmas.Bool.{lt-leb}
 use Rattle.grammar.specs.Grammar.{Row}
 use Rattle.grammar.specs.Sending.{texts_in, stands, sending}
 use Rattle.grammar.specs.Flat.{flat_container}
@@ -43,5 +44,5 @@ module _ (rows : List Row) (tree : admits top_level rows ≡ true) (fit : any_ov
   none_under h = none_chosen rows (λ d k. stands_is d ∙ go d k (suits d rows) refl)
     where
       go : (d : ℕ) → d < 256 → (b : Bool) → suits d rows ≡ b → (b && leb (length_under d rows) 65535) ≡ false
-      go d k true q = borrow.Author.Tests.lt-leb (length_under d rows) 65535 (h d k q)
+      go d k true q = lt-leb (length_under d rows) 65535 (h d k q)
       go d k false q = refl

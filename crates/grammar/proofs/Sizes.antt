@@ -1,16 +1,17 @@
 -- The length of a normal tree's bytes, by its rows and the default alone.
-use Rattle.std.proofs.Common.{◌≡◌, ℕ, zero, suc, ◌+◌, ◌*◌, ◌<◌, Bool, true, false, not, ◌&&◌, T, eqb, List, [], ◌∷◌, ◌++◌, length, ℤ, pos, negsuc, sym, refl, ap, ◌∙◌, subst, arith, eqb→eq, length-append}
-use native.Mathlib.Decide.{dec_lt}
+use Rattle.std.proofs.Common.{◌≡◌, ℕ, suc, ◌+◌, ◌*◌, ◌<◌, Bool, true, false, T, eqb, List, [], ◌∷◌, ◌++◌, length, ℤ, pos, sym, refl, ap, ◌∙◌, subst, arith, eqb→eq, length-append}
+use Rattle.grammar.proofs.Numbers.{twos_length}
+use Rattle.grammar.proofs.Lines.{all_below, below_at, text_known}
 use Rattle.grammar.specs.declared.table.Spot.TheVariants.{Descriptions, Node, Reference, Place, Modes, Associated, Nowhere}
 use Rattle.grammar.specs.declared.table.Spot.{Spot}
 use Rattle.grammar.specs.declared.table.Fields.{Fields}
 use Rattle.grammar.specs.declared.table.Fields.TheVariants.{Nothing, Code, Text, Globe, Floor, Count, Radius, Height}
-use Rattle.grammar.specs.Format.{width, layout, twos, fixed, kind_at}
+use Rattle.grammar.specs.Format.{width, layout, fixed, kind_at}
 use Rattle.grammar.specs.Grammar.{Row, Parts, none, unknown, named, held, tail_bytes, how_many, bytes_of, said, tell, deeper}
 use Rattle.grammar.specs.Reading.{is_text}
 use Rattle.grammar.specs.Deciding.{Sound}
 use Rattle.grammar.specs.Sending.{normal, tail_for, spoken_unless, counts, texts_in, fields_size, body_size, full_size}
-use Rattle.grammar.proofs.Normal.{on_eqb, length_big, size_named, size_held}
+use Rattle.grammar.proofs.Normal.{on_eqb, size_named, size_held}
 use Rattle.grammar.proofs.Gathered.{on_ltb, held_no_text}
 
 -- each known kind has the width of the spot where the table has it
@@ -25,20 +26,6 @@ kind_below Nowhere i = omega arith
 
 abbrev same_width : Spot → ℕ → Bool
 same_width s k = elim (eqb (kind_at s (layout k).id) k) [ false ↦ true | true ↦ elim (eqb k 0) [ true ↦ true | false ↦ eqb (width s) (width (layout k).holder) ] ]
-
-abbrev pub all_below : (ℕ → Bool) → ℕ → Bool
-all_below f zero = true
-all_below f (suc n) = f n && all_below f n
-
-both : (a b : Bool) → T (a && b) → T a × T b
-both true b h = (tt, h)
-both false b h = absurd h
-
-pub below : (f : ℕ → Bool) (n : ℕ) → T (all_below f n) → (k : ℕ) → k < n → T (f k)
-below f zero h k l = absurd (omega arith)
-below f (suc n) h k l =
-    let t = both (f n) (all_below f n) h in
-    elim (dec_lt k n) [ yes g ↦ below f n t.1 k g | no g ↦ let e : n ≡ k = omega arith in subst (λ (x : ℕ). T (f x)) e t.0 ]
 
 same_widths : (s : Spot) → T (all_below (same_width s) 28)
 same_widths Descriptions = tt
@@ -59,25 +46,17 @@ width_is s k e h =
     (λ q. on_eqb (λ x. T (elim x [ true ↦ true | false ↦ eqb (width s) (width (layout k).holder) ]) → width s ≡ width (layout k).holder) k 0
     (λ z. absurd (omega arith)) (λ n t. eqb→eq (width s) (width (layout k).holder) t))
     (λ n. absurd (n e))
-    (below (same_width s) 28 (same_widths s) k b)
-
-pub text_known : (k : ℕ) → (layout k).fields ≡ Text → 0 < k
-text_known zero e = absurd (subst (λ (f : Fields). T (not (is_text f))) e tt)
-text_known (suc k) e = omega arith
-
-length_twos : (n : ℕ) (z : ℤ) → length (twos n z) ≡ n
-length_twos n (pos x) = length_big n x
-length_twos n (negsuc x) = length_big n _
+    (below_at (same_width s) 28 (same_widths s) k b)
 
 pub fields_size_is : (f : Fields) (a b : ℤ) (n : ℕ) → length (fixed f a b n) ≡ fields_size f
 fields_size_is Nothing a b n = refl
 fields_size_is Code a b n = refl
 fields_size_is Text a b n = refl
-fields_size_is Globe a b n = simp (length-append, length_twos)
-fields_size_is Floor a b n = length_twos 1 a
+fields_size_is Globe a b n = simp (length-append, twos_length)
+fields_size_is Floor a b n = twos_length 1 a
 fields_size_is Count a b n = refl
 fields_size_is Radius a b n = refl
-fields_size_is Height a b n = ap suc (length_twos 2 b)
+fields_size_is Height a b n = ap suc (twos_length 2 b)
 
 counts_plus : (b c : Bool) (n m : ℕ) → counts b c (n + m) ≡ counts b c n + m
 counts_plus true true n m = omega arith

@@ -1,7 +1,8 @@
 -- What the reader accepts is a legal container, and the rows that it gives are those that the container tells.
 -- Assumes nothing.
 use Rattle.std.proofs.Common.{◌≡◌, ℕ, zero, suc, ◌+◌, ◌-◌, ◌^◌, ◌<◌, ◌≤◌, Bool, true, false, not, ◌&&◌, eqb, ltb, List, [], ◌∷◌, ◌++◌, length, get_or, take, drop, ℤ, None, Ok, sym, refl, ap, ◌∙◌, subst, ap₂, arith, take-append-drop, length-take-le, ltb-false, eqb-true}
-use borrow.Author.Tests.{eqb-false}
+use Rattle.std.proofs.Math.Bool.{and-true}
+use Rattle.std.proofs.lemmas.Bool.{eqb-false, true≢false}
 use Rattle.grammar.specs.declared.table.Spot.TheVariants.{Descriptions, Node, Reference, Place, Modes, Associated, Nowhere}
 use Rattle.grammar.specs.declared.table.Spot.{Spot}
 use Rattle.grammar.specs.declared.table.Fields.{Fields}
@@ -41,12 +42,8 @@ passes Node h = tt
 passes Reference h = tt
 passes Place h = tt
 passes Modes h = tt
-passes Associated h = let z : ◌≡◌ {A = ℕ} 0 1 = cc in absurd (omega arith)
-passes Nowhere h = let z : ◌≡◌ {A = ℕ} 0 1 = cc in absurd (omega arith)
-
-and_true : (a : Bool) → (a && true) ≡ false → a ≡ false
-and_true true h = h
-and_true false h = refl
+passes Associated h = absurd (true≢false h)
+passes Nowhere h = absurd (true≢false h)
 
 pub text_of : (f : Fields) → is_text f ≡ true → f ≡ Text
 text_of Nothing h = cc
@@ -131,7 +128,7 @@ module _ (d : ℕ) (read : Reader) (sound : SoundReader d read) (s : Spot) (dept
       (λ q.
       record {
         put = λ p. unknown id body p;
-        legal = λ p l. (passes s (and_true (sealed s) (rw q at seal)), eqb-true (kind_at s id) 0 q, i, b, small, l);
+        legal = λ p l. (passes s (sym (and-true (sealed s)) ∙ rw q at seal), eqb-true (kind_at s id) 0 q, i, b, small, l);
         spells = λ p. refl;
         tells = λ p. rw (← ok_ok (rw q at h));
         counts = λ p. refl;

@@ -1,7 +1,7 @@
 -- One step of each count of specs/Checks, for every way that a check can go.
 -- Assumes nothing.
 use Rattle.std.proofs.Common.{◌≡◌, ℕ, suc, ◌+◌, ◌-◌, ◌*◌, ◌<◌, ◌≤◌, Bool, true, false, not, ◌&&◌, eqb, ltb, List, [], ◌∷◌, ◌++◌, length, get_or, Some, None, Ok, Err, sym, refl, ap, ◌∙◌, subst, ap₂, arith, length-append, ltb-false, le-ltb, lt-ltb, eq-eqb, ne_eqb, eqb-true, le-leb}
-use borrow.Author.Tests.{lt-leb}
+use Rattle.std.proofs.lemmas.Bool.{lt-leb, not-false, both_ways, false≢true}
 use Rattle.grammar.specs.declared.fault.ReadFault.{ReadFault}
 use Rattle.grammar.specs.declared.fault.ReadFault.TheVariants.{TooLong, Empty, WrongSize, SecondDescriptions, SecondLanguage, Miscounted, TooDeep}
 use Rattle.grammar.specs.declared.table.Spot.{Spot}
@@ -16,7 +16,6 @@ use Rattle.grammar.specs.Checks.{many, plus, tail_of, parts_of, nodes_of, compon
 use Rattle.grammar.proofs.Cut.{by_cases, by_then, by_test, go_then, err_ok, ok_ok}
 use Rattle.grammar.proofs.Complete.{is_nowhere}
 use Rattle.grammar.proofs.Lines.{counts_agree, text_closed}
-use borrow.Author.Tests.{not-false}
 use Rattle.grammar.proofs.Sound.{text_of}
 use Rattle.grammar.proofs.Same.{count_of, associated_of, tops_same, reading_same, tail_turns, parts_turns, nodes_turns, component_turns}
 
@@ -98,7 +97,7 @@ module _ (bs : List ℕ) (s : Spot) (level n at end : ℕ) where
         let d : ℕ = get_or bs 0 0 in
         let k : ℕ = kind_at s (get_or bs at 0) in
         let x = component_turns bs d (end - at) (suc (to - (at + suc (width s)))) (at + suc (width s)) to (omega arith) (omega arith) k (level - 1) level n at (omega arith) (omega arith) in
-        let y = parts_turns bs d (end - at) (suc (end - to)) to end (omega arith) within s (level - 1) level n (omega arith) (omega arith) c (λ z. let v : ◌≡◌ {A = ℕ} 0 1 = cc in absurd (omega arith)) in
+        let y = parts_turns bs d (end - at) (suc (end - to)) to end (omega arith) within s (level - 1) level n (omega arith) (omega arith) c (λ z. absurd (both_ways _ o z)) in
         rw (lt-leb end at h, q, x, y)
         (many_both (O.component bs d (suc (to - (at + suc (width s)))) k (level - 1) level n at (at + suc (width s)) to) (O.parts bs d (suc (end - to)) s (level - 1) level n to end))
 
@@ -167,11 +166,11 @@ module _ (to : ℕ) (w : ℕ → Read ℕ) where
       → then r (λ a. then (t a) (λ _. Ok 1)) ≡ then (then r (λ a. if b (λ _. then (t a) (λ _. Ok to)) (λ _. Ok a))) w
   text_way e true q (Ok a) t = then_const (t a) to w (Ok 1) e
   text_way e true q (Err f) t = refl
-  text_way e false q r t = let v : ◌≡◌ {A = ℕ} 0 1 = cc in absurd (omega arith)
+  text_way e false q r t = cc
 
   other_way : (b : Bool) → b ≡ false → (r : Read ℕ) (t : ℕ → Read Spoken)
       → then r w ≡ then (then r (λ a. if b (λ _. then (t a) (λ _. Ok to)) (λ _. Ok a))) w
-  other_way true q r t = let v : ◌≡◌ {A = ℕ} 0 1 = cc in absurd (omega arith)
+  other_way true q r t = cc
   other_way false q (Ok a) t = refl
   other_way false q (Err f) t = refl
 
@@ -212,7 +211,7 @@ module _ (bs : List ℕ) (k level n at from to : ℕ) (known : k ≡ 0 → ⊥) 
         let t = parts_turns bs (get_or bs 0 0) (to - from) (suc (to - a)) a to (omega arith) within (layout k).inside (suc (level - 1)) (suc level) (deeper (layout k).inside n) (omega arith) (omega arith) free
         (λ z. by_cases (closed (layout k).inside)
         (λ y. sym (eqb-true to a (not-false _ (rw (y, text) at q))))
-        (λ y. let v = closed_parts (layout k).inside y free in let w : ◌≡◌ {A = ℕ} 0 1 = cc in absurd (omega arith))) in
+        (λ y. absurd (both_ways _ (closed_parts (layout k).inside y free) z))) in
         rw (text, c, t, deep) (many_one _ _))
 
     -- a text
@@ -275,7 +274,7 @@ module _ (bs : List ℕ) (seen : Bool) (at : ℕ) where
       tops_described i y =
           let w = ends_within bs 2 0 at (length bs) to q in
           let d : ℕ = get_or bs 0 0 in
-          let t = parts_turns bs d (2 * length bs) (suc (to - (at + 3))) (at + 3) to (omega arith) (omega arith) Descriptions 0 1 0 (omega arith) (omega arith) refl (λ z. let v : ◌≡◌ {A = ℕ} 0 1 = cc in absurd (omega arith)) in
+          let t = parts_turns bs d (2 * length bs) (suc (to - (at + 3))) (at + 3) to (omega arith) (omega arith) Descriptions 0 1 0 (omega arith) (omega arith) refl (λ z. absurd (false≢true z)) in
           let u = tops_turns bs d (length bs - at) (suc (length bs - to)) true to (omega arith) (omega arith) (omega arith) in
           rw (lt-leb (length bs) at h, q, eq-eqb (get_or bs at 0) 1 i, y, t, u)
           (many_both (O.parts bs d (suc (to - (at + 3))) Descriptions 0 1 0 (at + 3) to) (O.tops bs d (suc (length bs - to)) true to))
@@ -309,7 +308,7 @@ data_closed bs k level at from to a c h =
 
 leafy_deeper : (s : Spot) (n : ℕ) → leafy s ≡ true → deeper s n ≡ n
 leafy_deeper Descriptions n h = refl
-leafy_deeper Node n h = let z : ◌≡◌ {A = ℕ} 0 1 = cc in absurd (omega arith)
+leafy_deeper Node n h = cc
 leafy_deeper Reference n h = refl
 leafy_deeper Place n h = refl
 leafy_deeper Modes n h = refl
@@ -402,7 +401,7 @@ module _ (bs : List ℕ) (k level n at from to : ℕ) (known : 0 < k) (some : 1 
   node_plain : (is_count (layout k).fields ≡ false) × (is_text (layout k).fields ≡ false)
   node_plain = (
     sym (counts_agree k) ∙ ap counted node,
-    by_cases (is_text (layout k).fields) (λ t. let c = text_closed k t in let y : closed (layout k).inside ≡ false = ap closed node in let z : ◌≡◌ {A = ℕ} 0 1 = cc in absurd (omega arith)) (λ t. t),
+    by_cases (is_text (layout k).fields) (λ t. let c = text_closed k t in absurd (both_ways _ (ap closed node) c)) (λ t. t),
   )
 
   node_is : n < 8 → component_of bs k level n at from to ≡ then (fields_of bs (layout k) level at from to) (λ a. plus 1 (parts_of bs Node (level + 1) (n + 1) a to))

@@ -1,7 +1,7 @@
 -- What follows a text: the reader accepts exactly the legal tails, and hears what they say.
 -- Assumes nothing.
 use Rattle.std.proofs.Common.{◌≡◌, ℕ, zero, suc, ◌+◌, ◌<◌, true, not, eqb, List, [], ◌∷◌, ◌++◌, length, get_or, Some, Ok, sym, refl, ap, ◌∙◌, mod-eq_of_lt, div-one, arith, length-append, ne_eqb, eqb-true}
-use borrow.Author.Tests.{eqb-false, not-false}
+use Rattle.std.proofs.lemmas.Bool.{eqb-false, not-false}
 use Rattle.grammar.specs.Format.{big}
 use Rattle.grammar.specs.Grammar.{Bytes, Tail, bare, other, spoken, tail_bytes, TailLegal, said}
 use Rattle.grammar.specs.Reading.{cut, Piece, Spoken, heard, or_else, tail}

@@ -7,7 +7,7 @@ ghost use Rattle.grammar.specs.Reading.{is_text, is_count, closed};
 ghost use Rattle.grammar.specs.Theorems.{TableRule};
 
 // Where a component stands. Each spot has identifiers of its own.
-#[derive(Clone, Copy)]
+#[derive(Clone, Copy, Debug, Default, PartialEq, Eq, Hash)]
 pub enum Spot {
     Descriptions,
     Node,
@@ -15,12 +15,15 @@ pub enum Spot {
     Place,
     Modes,
     Associated,
+    // a spot like the others: no identifier is known here and a length has one byte, so that each look-up is a total function of a spot
+    #[default]
     Nowhere,
 }
 
 // What stands first in a component's data.
-#[derive(Clone, Copy)]
+#[derive(Clone, Copy, Debug, PartialEq, Eq, Hash)]
 pub enum Fields {
+    // fields like the others: they take no byte and tell 0 twice, as at the kinds that only hold parts
     Nothing,
     Code,
     Text,
@@ -32,7 +35,7 @@ pub enum Fields {
 }
 
 // One line of the table.
-#[derive(Clone, Copy)]
+#[derive(Clone, Copy, Debug, PartialEq, Eq, Hash)]
 pub struct Layout {
     pub holder: Spot, // where it stands
     pub again: Spot, // where it stands too, or nowhere
@@ -58,240 +61,64 @@ pub const DESCRIPTIONS: u8 = 1;
 
 pub const TOP_WIDTH: usize = 2;
 
-// The kinds by number; the lines of numbers that are no kind are blank.
+// A line of the table by its columns; those that are not named are as in a blank line.
+macro_rules! line {
+    ($($column:ident: $value:expr),*) => {
+        Layout { $($column: $value,)* ..BLANK }
+    };
+}
+
+// The kinds by number; the lines of numbers that are no kind are blank. A kind is its number and no enum, since a row may name any number.
 const KINDS: [Layout; 28] = [
     BLANK,
-    Layout {
-        holder: Spot::Descriptions,
-        again: Spot::Associated,
-        id: 2,
-        width: 2,
-        fields: Fields::Code,
-        fixed: 1,
-        inside: Spot::Node,
-    },
-    Layout {
-        holder: Spot::Node,
-        again: Spot::Nowhere,
-        id: 0,
-        width: 2,
-        fields: Fields::Text,
-        fixed: 1,
-        inside: Spot::Nowhere,
-    },
-    Layout {
-        holder: Spot::Node,
-        again: Spot::Nowhere,
-        id: 1,
-        width: 2,
-        fields: Fields::Nothing,
-        fixed: 0,
-        inside: Spot::Reference,
-    },
-    Layout {
-        holder: Spot::Node,
-        again: Spot::Nowhere,
-        id: 2,
-        width: 2,
-        fields: Fields::Globe,
-        fixed: 8,
-        inside: Spot::Place,
-    },
-    Layout {
-        holder: Spot::Node,
-        again: Spot::Nowhere,
-        id: 3,
-        width: 2,
-        fields: Fields::Floor,
-        fixed: 1,
-        inside: Spot::Nowhere,
-    },
-    Layout {
-        holder: Spot::Node,
-        again: Spot::Nowhere,
-        id: 4,
-        width: 2,
-        fields: Fields::Nothing,
-        fixed: 0,
-        inside: Spot::Modes,
-    },
-    Layout {
-        holder: Spot::Node,
-        again: Spot::Nowhere,
-        id: 5,
-        width: 2,
-        fields: Fields::Count,
-        fixed: 1,
-        inside: Spot::Associated,
-    },
-    Layout {
-        holder: Spot::Place,
-        again: Spot::Nowhere,
-        id: 0,
-        width: 1,
-        fields: Fields::Radius,
-        fixed: 2,
-        inside: Spot::Nowhere,
-    },
-    Layout {
-        holder: Spot::Place,
-        again: Spot::Nowhere,
-        id: 1,
-        width: 1,
-        fields: Fields::Height,
-        fixed: 3,
-        inside: Spot::Nowhere,
-    },
-    Layout {
-        holder: Spot::Modes,
-        again: Spot::Nowhere,
-        id: 0,
-        width: 1,
-        fields: Fields::Code,
-        fixed: 1,
-        inside: Spot::Nowhere,
-    },
+    line!(holder: Spot::Descriptions, again: Spot::Associated, id: 2, width: 2, fields: Fields::Code, fixed: 1, inside: Spot::Node),
+    line!(holder: Spot::Node, id: 0, width: 2, fields: Fields::Text, fixed: 1),
+    line!(holder: Spot::Node, id: 1, width: 2, inside: Spot::Reference),
+    line!(holder: Spot::Node, id: 2, width: 2, fields: Fields::Globe, fixed: 8, inside: Spot::Place),
+    line!(holder: Spot::Node, id: 3, width: 2, fields: Fields::Floor, fixed: 1),
+    line!(holder: Spot::Node, id: 4, width: 2, inside: Spot::Modes),
+    line!(holder: Spot::Node, id: 5, width: 2, fields: Fields::Count, fixed: 1, inside: Spot::Associated),
+    line!(holder: Spot::Place, id: 0, width: 1, fields: Fields::Radius, fixed: 2),
+    line!(holder: Spot::Place, id: 1, width: 1, fields: Fields::Height, fixed: 3),
+    line!(holder: Spot::Modes, id: 0, width: 1, fields: Fields::Code, fixed: 1),
     BLANK,
     BLANK,
     BLANK,
     BLANK,
     BLANK,
-    Layout {
-        holder: Spot::Reference,
-        again: Spot::Nowhere,
-        id: 0,
-        width: 1,
-        fields: Fields::Code,
-        fixed: 1,
-        inside: Spot::Nowhere,
-    },
-    Layout {
-        holder: Spot::Reference,
-        again: Spot::Nowhere,
-        id: 1,
-        width: 1,
-        fields: Fields::Code,
-        fixed: 1,
-        inside: Spot::Nowhere,
-    },
-    Layout {
-        holder: Spot::Reference,
-        again: Spot::Nowhere,
-        id: 2,
-        width: 1,
-        fields: Fields::Code,
-        fixed: 1,
-        inside: Spot::Nowhere,
-    },
-    Layout {
-        holder: Spot::Reference,
-        again: Spot::Nowhere,
-        id: 3,
-        width: 1,
-        fields: Fields::Code,
-        fixed: 1,
-        inside: Spot::Nowhere,
-    },
-    Layout {
-        holder: Spot::Reference,
-        again: Spot::Nowhere,
-        id: 4,
-        width: 1,
-        fields: Fields::Code,
-        fixed: 1,
-        inside: Spot::Nowhere,
-    },
-    Layout {
-        holder: Spot::Reference,
-        again: Spot::Nowhere,
-        id: 5,
-        width: 1,
-        fields: Fields::Code,
-        fixed: 1,
-        inside: Spot::Nowhere,
-    },
-    Layout {
-        holder: Spot::Reference,
-        again: Spot::Nowhere,
-        id: 6,
-        width: 1,
-        fields: Fields::Code,
-        fixed: 1,
-        inside: Spot::Nowhere,
-    },
-    Layout {
-        holder: Spot::Reference,
-        again: Spot::Nowhere,
-        id: 7,
-        width: 1,
-        fields: Fields::Code,
-        fixed: 1,
-        inside: Spot::Nowhere,
-    },
-    Layout {
-        holder: Spot::Reference,
-        again: Spot::Nowhere,
-        id: 8,
-        width: 1,
-        fields: Fields::Code,
-        fixed: 1,
-        inside: Spot::Nowhere,
-    },
-    Layout {
-        holder: Spot::Reference,
-        again: Spot::Nowhere,
-        id: 9,
-        width: 1,
-        fields: Fields::Code,
-        fixed: 1,
-        inside: Spot::Nowhere,
-    },
-    Layout {
-        holder: Spot::Reference,
-        again: Spot::Nowhere,
-        id: 10,
-        width: 1,
-        fields: Fields::Code,
-        fixed: 1,
-        inside: Spot::Nowhere,
-    },
-    Layout {
-        holder: Spot::Reference,
-        again: Spot::Nowhere,
-        id: 11,
-        width: 1,
-        fields: Fields::Text,
-        fixed: 1,
-        inside: Spot::Nowhere,
-    },
+    line!(holder: Spot::Reference, id: 0, width: 1, fields: Fields::Code, fixed: 1),
+    line!(holder: Spot::Reference, id: 1, width: 1, fields: Fields::Code, fixed: 1),
+    line!(holder: Spot::Reference, id: 2, width: 1, fields: Fields::Code, fixed: 1),
+    line!(holder: Spot::Reference, id: 3, width: 1, fields: Fields::Code, fixed: 1),
+    line!(holder: Spot::Reference, id: 4, width: 1, fields: Fields::Code, fixed: 1),
+    line!(holder: Spot::Reference, id: 5, width: 1, fields: Fields::Code, fixed: 1),
+    line!(holder: Spot::Reference, id: 6, width: 1, fields: Fields::Code, fixed: 1),
+    line!(holder: Spot::Reference, id: 7, width: 1, fields: Fields::Code, fixed: 1),
+    line!(holder: Spot::Reference, id: 8, width: 1, fields: Fields::Code, fixed: 1),
+    line!(holder: Spot::Reference, id: 9, width: 1, fields: Fields::Code, fixed: 1),
+    line!(holder: Spot::Reference, id: 10, width: 1, fields: Fields::Code, fixed: 1),
+    line!(holder: Spot::Reference, id: 11, width: 1, fields: Fields::Text, fixed: 1),
 ];
-
-fn line_in(lines: &[Layout], kind: u8) -> Layout
-    ensures { result ≡ slice_index_or lines.now kind blank }
-{
-    let at = usize::from(kind);
-    if at < lines.len() { lines[at] } else { BLANK }
-}
 
 // The line of a kind; that of a number that is no kind is blank.
 pub fn layout_of(kind: u8) -> Layout
     ensures { result ≡ layout kind }
 {
-    line_in(&KINDS, kind)
+    KINDS.get(usize::from(kind)).copied().unwrap_or(BLANK)
 }
 
 impl Layout {
     pub fn is_text(self) -> bool
         ensures { result ≡ is_text self.fields }
     {
-        matches!(self.fields, Fields::Text)
+        self.fields == Fields::Text
     }
 
     // Whether what follows is exactly as many nodes as the fields count.
     pub fn counts_nodes(self) -> bool
         ensures { result ≡ is_count self.fields }
     {
-        matches!(self.fields, Fields::Count)
+        self.fields == Fields::Count
     }
 
     // Whether nothing may follow the fixed fields.
@@ -317,25 +144,20 @@ impl Spot {
     pub fn is_closed(self) -> bool
         ensures { result ≡ closed self }
     {
-        matches!(self, Spot::Nowhere)
+        self == Spot::Nowhere
     }
 
     // The kind that an identifier stands for here, if it is known. Identifiers of a spot are consecutive, so this is no search.
     pub fn kind_at(self, id: u8) -> Option<u8>
         ensures { result ≡ some_kind (kind_at self id) }
     {
-        let (first, many, kind) = match self {
-            Spot::Descriptions | Spot::Associated => (2, 1, 1),
-            Spot::Node => (0, 6, 2),
-            Spot::Reference => (0, 12, 16),
-            Spot::Place => (0, 2, 8),
-            Spot::Modes => (0, 1, 10),
-            Spot::Nowhere => (0, 0, 0),
-        };
-        if id >= first && id - first < many {
-            Some(kind + (id - first))
-        } else {
-            None
+        match (self, id) {
+            (Spot::Descriptions | Spot::Associated, 2) => Some(1),
+            (Spot::Node, ..6) => Some(2 + id),
+            (Spot::Reference, ..12) => Some(16 + id),
+            (Spot::Place, ..2) => Some(8 + id),
+            (Spot::Modes, 0) => Some(10),
+            _ => None,
         }
     }
 
@@ -343,10 +165,7 @@ impl Spot {
     pub fn is_kind(self, id: u8, kind: u8) -> bool
         ensures { result ≡ (nat_lt 0 kind && kind_at self id == kind) }
     {
-        match self.kind_at(id) {
-            Some(found) => found == kind,
-            None => false,
-        }
+        self.kind_at(id) == Some(kind)
     }
 
     // The nodes around what stands here, of which so many are around its holder.
@@ -361,8 +180,6 @@ impl Spot {
 }
 
 // The rule of the table: what is looked up by spot and identifier stands there under that identifier, and the other way round.
-pub fn table_stands() -> u8
+pub fn table_stands()
     ensures { TableRule }
-{
-    0
-}
+{}
