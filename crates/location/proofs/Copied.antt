@@ -1,8 +1,8 @@
 -- A text copied byte by byte.
 -- Assumes nothing.
-use Rattle.std.proofs.Common.{◌≡◌, ℕ, ◌+◌, ◌<◌, ◌≤◌, List, [], ◌∷◌, ◌++◌, length, take, drop, set, Some, None, sym, refl, ap, ◌∙◌, subst, append_assoc, arith, length-take-le, drop-drop}
+use Rattle.std.proofs.Common.{◌≡◌, ℕ, ◌+◌, ◌<◌, ◌≤◌, List, [], ◌∷◌, ◌++◌, length, take, drop, set, Some, None, sym, refl, ap, ◌∙◌, subst, append_assoc, append-nil, arith, length-take-le, drop-drop}
 use Rattle.std.specs.List.{slice_get}
-use Rattle.std.proofs.lemmas.List.{take_more}
+use Rattle.std.proofs.lemmas.List.{take_more, take_all, drop_all}
 use Rattle.std.proofs.lemmas.Option.{slice_get-get_or, slice_get_past}
 use Rattle.std.proofs.lemmas.Bool.{cases_lt}
 use Rattle.grammar.specs.Grammar.{Rows, Bytes}
@@ -13,11 +13,7 @@ pub head_long : (xs : Rows) (row : Row) → Some row ≡ head_row xs → row.len
 head_long [] row e = cc
 head_long (x ∷ xs) row e = cc
 
-pub head_none : (xs : Rows) → None ≡ head_row xs → length (head_text xs) ≡ 0
-head_none [] e = refl
-head_none (x ∷ xs) e = let z : ◌≡◌ {A = ℕ} 0 1 = cc in absurd (omega arith)
-
-pub take_nth : (t : List ℕ) (i b : ℕ) → Some b ≡ slice_get t i → take (i + 1) t ≡ take i t ++ b ∷ []
+take_nth : (t : List ℕ) (i b : ℕ) → Some b ≡ slice_get t i → take (i + 1) t ≡ take i t ++ b ∷ []
 take_nth t i b e = grind (arith, cases_lt i (length t), slice_get-get_or t i 0, slice_get_past t i, take_more t i 0)
 
 pub nth_some : (t : List ℕ) (i : ℕ) → None ≡ slice_get t i → length t ≤ i
@@ -46,3 +42,11 @@ bytes_append (x ∷ xs) ys h k = (h.0, bytes_append xs ys h.1 k)
 
 pub bytes_one : (t : List ℕ) (i b : ℕ) → Bytes (take i t) → Some b ≡ slice_get t i → b < 256 → Bytes (take (i + 1) t)
 bytes_one t i b h n k = subst Bytes (sym (take_nth t i b n)) (bytes_append (take i t) (b ∷ []) h (k, tt))
+
+pub copied_all : (t old places : List ℕ) (i n : ℕ) → places ≡ take i t ++ drop i (take n old) → length t ≡ n → n ≤ length old → length (take n old) ≤ i
+    → places ++ drop n old ≡ t ++ drop (length t) old
+copied_all t old places i n e l h k =
+    let m : length (take n old) ≡ n = length-take-le n old h in
+    let a : take i t ≡ t = take_all i t (omega arith) in
+    let b : drop i (take n old) ≡ [] = drop_all i (take n old) k in
+    rw (e, a, b, l) (ap (λ (r : List ℕ). r ++ drop n old) (append-nil t))

@@ -4,6 +4,16 @@ use Rattle.grammar.specs.Format.{layout}
 use Rattle.grammar.specs.Grammar.{Rows, Row as Told}
 use Rattle.grammar.specs.Reading.{is_text, is_count}
 
+-- what is left of rows, where the first of them stays
+abbrev pub first_kept : (Rows → Rows) → Rows → Rows
+first_kept leaves [] = []
+first_kept leaves (x ∷ xs) = x ∷ leaves xs
+
+-- ys begins with the first row of xs that stays
+pub record SettledFrom (leaves : Rows → Rows) (xs ys : Rows) : Type 0 where
+  pub same : leaves ys ≡ leaves xs
+  pub settled : leaves ys ≡ first_kept leaves ys
+
 -- a text stays in its own language alone, and a row of any other kind in each
 abbrev pub spoken_in : ℕ → (kind language : ℕ) → Bool
 spoken_in l kind language = not (is_text (layout kind).fields) || language == l
@@ -13,15 +23,9 @@ abbrev pub one_language : ℕ → Rows → Rows
 one_language l [] = []
 one_language l (x ∷ xs) = cond (spoken_in l x.kind x.language) (x ∷ one_language l xs) (one_language l xs)
 
--- the first row, if there is one, stays
-abbrev pub SpokenFirst : ℕ → Rows → Type 0
-SpokenFirst l [] = Unit {0}
-SpokenFirst l (x ∷ xs) = spoken_in l x.kind x.language ≡ true
-
 -- ys begins with the first row of xs that stays
-pub record SpokenFrom (l : ℕ) (xs ys : Rows) : Type 0 where
-  pub same : one_language l ys ≡ one_language l xs
-  pub settled : SpokenFirst l ys
+abbrev pub SpokenFrom : ℕ → Rows → Rows → Type 0
+SpokenFrom l = SettledFrom (one_language l)
 
 -- a row that holds nodes is left out where those would be past n levels: each level is two rows deep
 abbrev pub past_levels : ℕ → (kind depth : ℕ) → Bool
@@ -42,14 +46,9 @@ cut_from n out (x ∷ xs) =
 abbrev pub cut : ℕ → Rows → Rows
 cut n = cut_from n None
 
-abbrev pub UncutFirst : ℕ → Rows → Type 0
-UncutFirst n [] = Unit {0}
-UncutFirst n (x ∷ xs) = past_levels n x.kind x.depth ≡ false
-
 -- ys begins with the first row of xs that stays
-pub record UncutFrom (n : ℕ) (xs ys : Rows) : Type 0 where
-  pub same : cut n ys ≡ cut n xs
-  pub settled : UncutFirst n ys
+abbrev pub UncutFrom : ℕ → Rows → Rows → Type 0
+UncutFrom n = SettledFrom (cut n)
 
 -- the rows from the first that is no deeper than m
 abbrev pub drop_deeper : ℕ → Rows → Rows

@@ -8,14 +8,18 @@ ghost use Rattle.location.specs.Answers.{any_row, head_row, head_text, laid_over
 
 mod cut;
 mod language;
+mod layered;
+mod steps;
 #[cfg(test)]
 mod tests;
 
-pub use cut::{Cut, cut_stands};
-pub use language::OneLanguage;
+pub use cut::{Cut, Levels, cut_stands};
+pub use language::{Language, OneLanguage};
+pub use layered::{Layered, Rule};
+pub use steps::{Rows, Step, Steps, rows_from, rows_of, steps_from, steps_of};
 
 // A row as code sees it: of the text only the length.
-#[derive(Clone, Copy)]
+#[derive(Clone, Copy, Debug, PartialEq, Eq)]
 pub struct Row {
     pub depth: u8,
     pub kind: u8,
@@ -61,16 +65,13 @@ pub trait Location {
         ensures wrote { out.new ≡ (if result then laid_over (head_text (rows self.now m)) out.old else out.old) }
         ensures bytes { result ≡ true → Bytes (head_text (rows self.now m)) }
     {
-        let length = match self.row(m) {
-            Some(row) => usize::from(row.length),
-            None => 0,
-        };
+        let length = self.row(m).map_or(0, |row| usize::from(row.length));
         if length > out.len() {
             return false;
         }
-        for i in 0..length {
+        for (i, place) in out[..length].iter_mut().enumerate() {
             if let Some(b) = self.byte(m, i) {
-                out[i] = b;
+                *place = b;
             }
         }
         true
@@ -108,4 +109,17 @@ impl<'a, L: Location> Location for &'a L {
     fn copy_text(&self, m: L::Mark, out: &mut [u8]) -> bool {
         (**self).copy_text(m, out)
     }
+}
+
+// Copies a text to the front of `out`, if it fits.
+pub fn copy_front(text: &[u8], out: &mut [u8]) -> bool
+    ensures fits { result ≡ nat_le (long text.now) (long out.old) }
+    ensures wrote { out.new ≡ (if result then laid_over text.now out.old else out.old) }
+    ensures bytes { Bytes text.now }
+{
+    if text.len() > out.len() {
+        return false;
+    }
+    out[..text.len()].copy_from_slice(text);
+    true
 }

@@ -3,7 +3,7 @@ ghost use Rattle.std.specs.Prelude.{◌≡◌, [], ◌∷◌, Some, None};
 ghost use Rattle.location.specs.Answers.{head_row};
 ghost use Rattle.location.specs.Layers.{cut, one_language};
 
-use super::{Cut, Location, OneLanguage, Row};
+use super::{Cut, Location, OneLanguage, Row, rows_of};
 use std::test::Fail;
 
 // No rows.
@@ -100,18 +100,14 @@ fn head_of_three<L: Location>(location: &L, more: u8, language: u8, fewer: u8) -
     head(&Cut::new(OneLanguage::new(Cut::new(location, more), language), fewer))
 }
 
-// The places of a location's rows, as one number.
+// The places of a location's rows, as one number; of six rows at most.
 fn places<L: Location>(location: &L) -> Option<i32> {
-    let mut at = location.first();
+    let mut rows = rows_of(location);
     let mut all: i32 = 0;
-    for _ in 0..7 {
-        let Some(row) = location.row(at) else {
-            return Some(all);
-        };
+    for row in rows.by_ref().take(6) {
         all = all.wrapping_mul(10).wrapping_add(row.a);
-        at = location.next(at)?;
     }
-    None
+    rows.next().is_none().then_some(all)
 }
 
 // A row at a depth, of a kind and in a language, with its place as a number, and then the rest.

@@ -1,15 +1,15 @@
 // A pile of layers that is chosen while a program runs: each place of it has the language layer, the cut layer or none.
 #![tactic(auto)]
 
-ghost use Rattle.std.specs.Prelude.{◌≡◌, Some, None, slice_index_or};
-ghost use Rattle.pile.specs.Through.{seen_through, seen_pile, PutsOn, Ordered, Piled};
+ghost use Rattle.std.specs.Prelude.{◌≡◌};
+ghost use Rattle.pile.specs.Through.{left_by, Ordered, Piled};
 
-use location::{Cut, Location, OneLanguage, Row};
+use location::{Language, Levels, Location, Row, Rule};
 
 // What a place of a pile has.
 #[derive(Clone, Copy)]
 pub enum Layer {
-    // every row stays
+    // every row stays: a rule like the others, where a None would be a second thing that every user of a rule has to know
     All,
     // of the texts only those in this language stay
     Language(u8),
@@ -17,99 +17,33 @@ pub enum Layer {
     Cut(u8),
 }
 
+impl Rule for Layer {
+    ghost leaves = { left_by };
+
+    fn settle<L: Location>(&self, below: &L, m: L::Mark) -> (L::Mark, Option<Row>) {
+        match *self {
+            Layer::All => (m, below.row(m)),
+            Layer::Language(language) => Language(language).settle(below, m),
+            Layer::Cut(levels) => Levels(levels).settle(below, m),
+        }
+    }
+
+    fn settled<L: Location>(&self, below: &L, m: L::Mark) -> L::Mark {
+        match *self {
+            Layer::All => m,
+            Layer::Language(language) => Language(language).settled(below, m),
+            Layer::Cut(levels) => Levels(levels).settled(below, m),
+        }
+    }
+}
+
 // A location with a layer on it, or with none.
-#[derive(Drop)]
-pub enum Layered<L> {
-    Plain(L),
-    Spoken(OneLanguage<L>),
-    Shallow(Cut<L>),
-}
-
-impl<L> Layered<L> {
-    pub fn new(below: L, layer: Layer) -> Layered<L>
-        ensures { PutsOn below layer result }
-    {
-        match layer {
-            Layer::All => Layered::Plain(below),
-            Layer::Language(language) => Layered::Spoken(OneLanguage::new(below, language)),
-            Layer::Cut(levels) => Layered::Shallow(Cut::new(below, levels)),
-        }
-    }
-}
-
-impl<L: Location> Location for Layered<L> {
-    type Mark = L::Mark;
-
-    ghost rows = { λ s m. seen_through s (λ l. L.Location.rows l m) };
-
-    ghost whole = { λ s. seen_through s (λ l. L.Location.whole l) };
-
-    fn first(&self) -> L::Mark {
-        match self {
-            Layered::Plain(l) => l.first(),
-            Layered::Spoken(l) => l.first(),
-            Layered::Shallow(l) => l.first(),
-        }
-    }
-
-    fn here(&self, m: L::Mark) -> bool {
-        match self {
-            Layered::Plain(l) => l.here(m),
-            Layered::Spoken(l) => l.here(m),
-            Layered::Shallow(l) => l.here(m),
-        }
-    }
-
-    fn row(&self, m: L::Mark) -> Option<Row> {
-        match self {
-            Layered::Plain(l) => l.row(m),
-            Layered::Spoken(l) => l.row(m),
-            Layered::Shallow(l) => l.row(m),
-        }
-    }
-
-    fn byte(&self, m: L::Mark, i: usize) -> Option<u8> {
-        match self {
-            Layered::Plain(l) => l.byte(m, i),
-            Layered::Spoken(l) => l.byte(m, i),
-            Layered::Shallow(l) => l.byte(m, i),
-        }
-    }
-
-    fn next(&self, m: L::Mark) -> Option<L::Mark> {
-        match self {
-            Layered::Plain(l) => l.next(m),
-            Layered::Spoken(l) => l.next(m),
-            Layered::Shallow(l) => l.next(m),
-        }
-    }
-
-    fn copy_text(&self, m: L::Mark, out: &mut [u8]) -> bool {
-        match self {
-            Layered::Plain(l) => l.copy_text(m, out),
-            Layered::Spoken(l) => l.copy_text(m, out),
-            Layered::Shallow(l) => l.copy_text(m, out),
-        }
-    }
-}
+pub type Layered<L> = location::Layered<L, Layer>;
 
 // The layers of a pile of four places, the lowest first.
 #[derive(Clone, Copy)]
 pub struct Order {
-    first: Layer,
-    second: Layer,
-    third: Layer,
-    fourth: Layer,
-}
-
-fn layer_at(layers: &[Layer], i: usize) -> Layer
-    ensures { result ≡ slice_index_or layers.now i Layer.All }
-{
-    if i < layers.len() {
-        layers[i]
-    } else {
-        Layer::All
-    }
+    layers: [Layer; 4],
 }
 
 impl Order {
@@ -120,12 +54,9 @@ impl Order {
         if layers.len() > 4 {
             return None;
         }
-        Some(Order {
-            first: layer_at(layers, 0),
-            second: layer_at(layers, 1),
-            third: layer_at(layers, 2),
-            fourth: layer_at(layers, 3),
-        })
+        let mut places = [Layer::All; 4];
+        places[..layers.len()].copy_from_slice(layers);
+        Some(Order { layers: places })
     }
 }
 
@@ -135,8 +66,9 @@ pub type Pile<L> = Layered<Layered<Layered<Layered<L>>>>;
 pub fn pile_up<L>(below: L, order: Order) -> Pile<L>
     ensures { Piled below order result }
 {
-    let one = Layered::new(below, order.first);
-    let two = Layered::new(one, order.second);
-    let three = Layered::new(two, order.third);
-    Layered::new(three, order.fourth)
+    let [first, second, third, fourth] = order.layers;
+    let one = Layered::on(below, first);
+    let two = Layered::on(one, second);
+    let three = Layered::on(two, third);
+    Layered::on(three, fourth)
 }
