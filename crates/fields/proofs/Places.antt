@@ -2,6 +2,7 @@
 -- Assumes nothing.
 use Rattle.std.proofs.Common.{◌≡◌, ℕ, suc, ◌+◌, ◌-◌, ◌*◌, ◌≤◌, Bool, true, false, cond, not, ◌&&◌, ◌||◌, ltb, List, length, get_or, take, drop, ℤ, pos, negsuc, Some, None, Option, sym, refl, ap, ◌∙◌, add-zero, arith, length-drop, length-take-le, take_all, w32, to_z, ltb-false, ltb-true, le-ltb, lt-ltb, eq-eqb}
 use mir.Val.{sel}
+use Rattle.std.specs.Bool.{then_some}
 use Rattle.std.proofs.lemmas.List.{drop-take}
 use Rattle.std.proofs.lemmas.Bool.Decides.{nat_tests as ways}
 use Rattle.grammar.specs.declared.table.Fields.{Fields}
@@ -12,7 +13,7 @@ use Rattle.grammar.specs.Offsets as O
 use Rattle.grammar.proofs.Cut.{by_cases}
 use Rattle.grammar.proofs.Slices.{slice_drop, value_slice}
 use Rattle.fields.specs.Shape.{Shape, extent, fitting, unlaid, globe_shape}
-use Rattle.fields.specs.Told.{told_at, numbers_at}
+use Rattle.fields.specs.Told.{read_at, tells, told_at, numbers_at}
 use Rattle.fields.specs.Laws.{Faithful}
 
 -- the n bytes at `at`
@@ -80,8 +81,9 @@ module _ {V : Type 0} (s : Shape V) (honest : Faithful s) where
       (λ o. rw o)
       (λ o. rw (o, ← honest.first p, ← honest.second p, first_in bs at s.fields h, second_in bs at s.fields h))))
 
-  pub told_numbers : (f : Fields) (bs : List ℕ) (at : ℕ) {r : Option (ℤ × ℤ)} → r ≡ told_at s bs at → f ≡ s.fields → r ≡ numbers_at f bs at
-  told_numbers f bs at e q = e ∙ told_same bs at ∙ ap (λ (g : Fields). numbers_at g bs at) (sym q)
+  -- so do those of what was read, if it told any
+  pub told_numbers : (bs : List ℕ) (at : ℕ) {o : Option V} {r : Option (ℤ × ℤ)} → o ≡ read_at (unlaid s) (extent s) bs at → r ≡ tells s o → r ≡ numbers_at s.fields bs at
+  told_numbers bs at e q = q ∙ ap (tells s) e ∙ told_same bs at
 
 -- a number's bits read as signed, where half of the numbers of its width are negative
 pub halved : (half m : ℕ) → sel (ltb m half) (pos m) (negsuc (half * 2 - suc m)) ≡ if (ltb (m * 2) (half * 2)) (λ _. pos m) (λ _. negsuc (half * 2 - suc m))
@@ -100,6 +102,10 @@ fits_globe true b = refl
 fits_globe false true = refl
 fits_globe false false = refl
 
+then_is : {A : Type 0} (b : Bool) (x : A) → then_some b x ≡ cond b (Some x) None
+then_is true x = refl
+then_is false x = refl
+
 -- the eight bytes of a place
 module _ (bs : List ℕ) (l : length bs ≡ 8) where
   -- one of its two numbers, from its four bytes as the code joins them
@@ -112,10 +118,11 @@ module _ (bs : List ℕ) (l : length bs ≡ 8) where
   pub globe_read : (x y : ℤ)
       → x ≡ to_z w32 (get_or bs 0 0 * 16777216 + get_or bs 1 0 * 65536 + get_or bs 2 0 * 256 + get_or bs 3 0)
       → y ≡ to_z w32 (get_or bs 4 0 * 16777216 + get_or bs 5 0 * 65536 + get_or bs 6 0 * 256 + get_or bs 7 0)
-      → cond (fitting globe_shape (x, y)) (Some (x, y)) None ≡ unlaid globe_shape bs
+      → then_some (fitting globe_shape (x, y)) (x, y) ≡ unlaid globe_shape bs
   globe_read x y ex ey =
       let h : 0 + fixed_bytes Globe ≤ length bs = omega arith in
       let w = take_all 8 bs (omega arith) in
       let e₁ : signed 4 bs ≡ x = ap (first_number Globe) (sym w) ∙ first_in bs 0 Globe h ∙ four_at 0 x ex in
       let e₂ : signed 4 (drop 4 bs) ≡ y = ap (second_number Globe) (sym w) ∙ second_in bs 0 Globe h ∙ four_at 4 y ey in
-      rw (eq-eqb (length bs) 8 l, e₁, e₂, ranges_beyond 18000000 x, ranges_beyond 9000000 y, fits_globe (beyond 18000000 x) (beyond 9000000 y))
+      then_is (fitting globe_shape (x, y)) (x, y)
+      ∙ rw (eq-eqb (length bs) 8 l, e₁, e₂, ranges_beyond 18000000 x, ranges_beyond 9000000 y, fits_globe (beyond 18000000 x) (beyond 9000000 y))

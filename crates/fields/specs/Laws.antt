@@ -1,9 +1,10 @@
 -- The laws of fixed fields, once for every shape: a value written is read back, and bytes read are written back.
 -- Assumes nothing.
-use Rattle.std.specs.Prelude.{◌≡◌, ℕ, ◌<◌, Bool, true, false, cond, not, List, [], ◌∷◌, length, ℤ, Some, None, ◌==◌, nat_lt, slice_index, refl}
+use Rattle.std.specs.Prelude.{◌≡◌, ℕ, ◌<◌, true, false, not, List, [], ◌∷◌, length, ℤ, Some, ◌==◌, nat_lt, slice_index, refl}
 use Rattle.std.proofs.Common.{sym, ◌∙◌, ap, subst, append-nil, arith, length-append, take_all}
 use borrow.Author.Tests.{ltb-true, lt-ltb, eqb-true, eq-eqb, not-true, clash}
 use Rattle.std.proofs.lemmas.Bool.{and_parts, and_from}
+use Rattle.std.proofs.lemmas.Option.{cond_some}
 use Rattle.grammar.specs.declared.table.Fields.{Fields}
 use Rattle.grammar.specs.declared.table.Fields.TheVariants.{Nothing, Code, Text, Globe, Floor, Count, Radius, Height}
 use Rattle.grammar.specs.Format.{big, twos, fixed, fixed_bytes, fits, natural}
@@ -13,11 +14,6 @@ use Rattle.grammar.proofs.Numbers.{length_twos}
 use Rattle.grammar.proofs.Fixed.{Writes, Reads, fields_written, fields_read, no_count}
 use Rattle.fields.specs.Shape.{Shape, fitting, laid, readable, unlaid, code_shape, floor_shape, radius_shape, height_shape, globe_shape, count_shape}
 use Rattle.fields.specs.Fit.{fit_is, fits_from}
-
--- a value that came with a test: the test held
-when_some : {A : Type 0} (b : Bool) (x v : A) → cond b (Some x) None ≡ Some v → (b ≡ true) × (x ≡ v)
-when_some true x v e = (refl, cc)
-when_some false x v e = let z : ◌≡◌ {A = ℕ} 0 1 = cc in absurd (omega arith)
 
 -- fields other than a text always take as many bytes
 least_is : (f : Fields) (bs : List ℕ) → is_text f ≡ false → least f bs ≡ fixed_bytes f
@@ -75,7 +71,7 @@ module _ {V : Type 0} (s : Shape V) (honest : Faithful s) where
   -- bytes that were read
   module _ (bs : List ℕ) (v : V) (small : Bytes bs) (h : unlaid s bs ≡ Some v) where
     got : (readable s bs ≡ true) × (s.value bs ≡ v)
-    got = when_some (readable s bs) (s.value bs) v h
+    got = cond_some (readable s bs) (s.value bs) v h
 
     parts : ((length bs == fixed_bytes s.fields) ≡ true) × (not (off_globe s.fields bs) ≡ true)
     parts = and_parts _ _ got.0

@@ -1,8 +1,7 @@
 // The height of a place: a code, then a signed number in two bytes.
 ghost use Rattle.grammar.specs.Format.{layout};
-ghost use Rattle.fields.specs.Shape.{extent, fitting, laid, unlaid, height_shape};
+ghost use Rattle.fields.specs.Shape.{height_shape};
 ghost use Rattle.fields.specs.Laws.{faithful_height};
-ghost use Rattle.fields.specs.Laws;
 
 use super::{FixedFields, put};
 
@@ -13,42 +12,27 @@ impl FixedFields for Height {
 
     const ID: u8 = 1;
 
-    ghost valid = { fitting height_shape };
+    ghost ID = { (layout 9).id };
 
-    ghost size = { extent height_shape };
+    ghost shape = { height_shape };
 
-    ghost identifier = { (layout 9).id };
-
-    ghost written = { laid height_shape };
-
-    ghost reads = { unlaid height_shape };
-
-    ghost back = { Laws.back height_shape faithful_height };
-
-    ghost only = { Laws.only height_shape faithful_height };
-
-    ghost good = { Laws.good height_shape faithful_height };
-
-    ghost long = { Laws.long height_shape faithful_height };
-
-    fn identifier() -> u8 {
-        Self::ID
-    }
+    ghost honest = { faithful_height };
 
     fn size() -> usize {
         3
     }
 
     fn read(bytes: &[u8]) -> Option<(u8, i16)> {
-        match bytes {
-            [code, a, b] => Some((*code, i16::from_be_bytes([*a, *b]))),
-            _ => None,
-        }
+        let [code, a, b]: [u8; 3] = bytes.try_into().ok()?;
+        Some((code, i16::from_be_bytes([a, b])))
     }
 
-    fn write(parts: (u8, i16), out: &mut [u8]) -> bool {
-        let (code, height) = parts;
+    fn write((code, height): (u8, i16), out: &mut [u8]) -> bool {
         let [a, b] = height.to_be_bytes();
         put(&[code, a, b], out)
+    }
+
+    fn told((code, height): (u8, i16)) -> (i32, i32) {
+        (i32::from(code), i32::from(height))
     }
 }

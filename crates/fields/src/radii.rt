@@ -1,8 +1,7 @@
 // The radius of a place: a number in two bytes.
 ghost use Rattle.grammar.specs.Format.{layout};
-ghost use Rattle.fields.specs.Shape.{extent, fitting, laid, unlaid, radius_shape};
+ghost use Rattle.fields.specs.Shape.{radius_shape};
 ghost use Rattle.fields.specs.Laws.{faithful_radius};
-ghost use Rattle.fields.specs.Laws;
 
 use super::{FixedFields, put};
 
@@ -13,40 +12,25 @@ impl FixedFields for Radius {
 
     const ID: u8 = 0;
 
-    ghost valid = { fitting radius_shape };
+    ghost ID = { (layout 8).id };
 
-    ghost size = { extent radius_shape };
+    ghost shape = { radius_shape };
 
-    ghost identifier = { (layout 8).id };
-
-    ghost written = { laid radius_shape };
-
-    ghost reads = { unlaid radius_shape };
-
-    ghost back = { Laws.back radius_shape faithful_radius };
-
-    ghost only = { Laws.only radius_shape faithful_radius };
-
-    ghost good = { Laws.good radius_shape faithful_radius };
-
-    ghost long = { Laws.long radius_shape faithful_radius };
-
-    fn identifier() -> u8 {
-        Self::ID
-    }
+    ghost honest = { faithful_radius };
 
     fn size() -> usize {
         2
     }
 
     fn read(bytes: &[u8]) -> Option<u16> {
-        match bytes {
-            [a, b] => Some(u16::from_be_bytes([*a, *b])),
-            _ => None,
-        }
+        bytes.try_into().ok().map(u16::from_be_bytes)
     }
 
     fn write(radius: u16, out: &mut [u8]) -> bool {
         put(&radius.to_be_bytes(), out)
+    }
+
+    fn told(radius: u16) -> (i32, i32) {
+        (i32::from(radius), 0)
     }
 }
