@@ -1,6 +1,6 @@
 -- The tests of the fixed fields, one by one.
 -- Assumes nothing.
-use Rattle.std.proofs.Common.{◌≡◌, ℕ, ◌+◌, ◌<◌, ◌≤◌, Bool, true, false, not, ◌&&◌, eqb, ltb, List, length, ℤ, is_some, Some, None, Ok, Option, sym, refl, ap, ◌∙◌, arith, ltb-false, ltb-true, le-ltb, lt-ltb, eq-eqb, ne_eqb}
+use Rattle.std.proofs.Common.{◌≡◌, ℕ, ◌+◌, ◌<◌, ◌≤◌, Bool, true, false, not, ◌&&◌, eqb, ltb, List, length, ℤ, is_some, Some, None, Ok, Err, Option, sym, refl, ap, ◌∙◌, arith, ltb-false, ltb-true, le-ltb, lt-ltb, eq-eqb, ne_eqb}
 use Rattle.grammar.specs.Format.{layout, fixed_bytes}
 use Rattle.grammar.specs.Reading.{is_text}
 use Rattle.grammar.specs.Offsets as O
@@ -9,7 +9,34 @@ use Rattle.grammar.proofs.Cut.{by_cases, by_test, ok_ok}
 use Rattle.grammar.proofs.Sound.{text_of}
 use Rattle.grammar.proofs.Lines.{least_fixed, least_text, fixed_by_fields}
 use Rattle.fields.specs.Told.{numbers_at}
-use Rattle.reader.specs.Fielded.{fields_end, judged}
+use Rattle.grammar.specs.declared.fault.ReadFault.{ReadFault}
+use Rattle.grammar.specs.declared.fault.ReadFault.TheVariants.{WrongSize, OffGlobe}
+use Rattle.grammar.specs.Reading.{Read}
+use Rattle.std.specs.Option.{ok_or}
+use Rattle.reader.specs.Fielded.{fields_end}
+
+-- the first fault of the component at `at`: a wrong size goes before numbers that are off the globe
+abbrev pub judged : (level at : ℕ) → Option ℕ → (on_globe : Bool) → Read ℕ
+judged level at None b = Err (WrongSize at level)
+judged level at (Some inside) false = Err (OffGlobe at level)
+judged level at (Some inside) true = Ok inside
+
+module _ (level at : ℕ) where
+  pub first_fault : (r : Option ℕ) (b : Bool) (f : ReadFault) → ◌≡◌ {A = Read ℕ} (Err f) (ok_or r (WrongSize at level)) → Err f ≡ judged level at r b
+  first_fault None b f q = q
+  first_fault (Some x) b f q = let y : ◌≡◌ {A = ℕ} 0 1 = cc in absurd (omega arith)
+
+  pub second_fault : {X : Type 0} (r : Option ℕ) (o : Option X) (x : ℕ) (f : ReadFault) → ◌≡◌ {A = Read ℕ} (Ok x) (ok_or r (WrongSize at level))
+      → ◌≡◌ {A = Read X} (Err f) (ok_or o (OffGlobe at level)) → Err f ≡ judged level at r (is_some o)
+  second_fault None o x f p q = let y : ◌≡◌ {A = ℕ} 0 1 = cc in absurd (omega arith)
+  second_fault (Some y) None x f p q = let e : f ≡ OffGlobe at level = cc in ap Err e
+  second_fault (Some y) (Some z) x f p q = let y : ◌≡◌ {A = ℕ} 0 1 = cc in absurd (omega arith)
+
+  pub no_fault : {X : Type 0} (r : Option ℕ) (o : Option X) (x : ℕ) (z : X) → ◌≡◌ {A = Read ℕ} (Ok x) (ok_or r (WrongSize at level))
+      → ◌≡◌ {A = Read X} (Ok z) (ok_or o (OffGlobe at level)) → Ok x ≡ judged level at r (is_some o)
+  no_fault None o x z p q = let y : ◌≡◌ {A = ℕ} 0 1 = cc in absurd (omega arith)
+  no_fault (Some y) None x z p q = let y : ◌≡◌ {A = ℕ} 0 1 = cc in absurd (omega arith)
+  no_fault (Some y) (Some w) x z p q = p
 
 module _ (bs : List ℕ) (k : ℕ) where
   -- a kind's fields take at least what its line says

@@ -1,8 +1,7 @@
 -- The rows of a mark, by what stands at its place.
 -- Assumes nothing.
-use Rattle.std.proofs.Common.{◌≡◌, ℕ, zero, suc, ◌+◌, ◌-◌, ◌<◌, ◌≤◌, true, false, leb, List, [], ◌∷◌, length, get_or, take, drop, pos, Some, None, Ok, Err, sym, refl, ap, ◌∙◌, ap₂, arith, length-drop, length-take, get_or-drop, get_or-take, leb-false, leb-true}
-use Rattle.std.specs.List.{slice_get}
-use Rattle.std.proofs.lemmas.Option.{slice_get-get_or, slice_get_past}
+use Rattle.std.proofs.Common.{◌≡◌, ℕ, zero, suc, ◌+◌, ◌-◌, ◌<◌, ◌≤◌, true, false, leb, List, [], ◌∷◌, length, get_or, take, drop, pos, Option, Some, None, Ok, Err, sym, refl, ap, ◌∙◌, ap₂, arith, length-drop, length-take, leb-false, leb-true}
+use Rattle.std.specs.Option.{option_map}
 use Rattle.grammar.specs.declared.fault.ReadFault.{ReadFault}
 use Rattle.grammar.specs.Format.{layout, width, kind_at}
 use Rattle.grammar.specs.Grammar.{Rows}
@@ -19,7 +18,7 @@ use Rattle.grammar.specs.declared.table.Fields.{Fields}
 use Rattle.grammar.proofs.Sound.{text_of}
 use Rattle.location.specs.Answers.{seen}
 use Rattle.reader.specs.declared.standings.Standing.{Standing}
-use Rattle.reader.specs.declared.standings.Standing.TheVariants.{Known, Unknown, Unread}
+use Rattle.reader.specs.declared.standings.Standing.TheVariants.{Known, Unknown}
 use Rattle.reader.specs.Stands.{stands_at, language_in}
 use Rattle.reader.proofs.Stood.{stand_each, known_each, language_here}
 use Rattle.grammar.specs.declared.table.Spot.{Spot}
@@ -39,10 +38,10 @@ pub mark_out : (bs : List ℕ) (m : Mark) → m.held ≡ 0 → rows_at bs m ≡ 
 mark_out bs m h = ap (λ (n : ℕ). rows_from bs (get_or bs 0 0) (stack m.frames n) m.at) h ∙ rows_none bs (get_or bs 0 0) m.at
 
 -- the rows from a mark on, by what stands there
-abbrev pub after : List ℕ → Mark → Standing → Rows
-after bs m Unread = []
-after bs m (Unknown to) = rows_at bs (record { at = to; held = m.held; frames = m.frames })
-after bs m (Known c) =
+abbrev pub after : List ℕ → Mark → Option Standing → Rows
+after bs m None = []
+after bs m (Some (Unknown to)) = rows_at bs (record { at = to; held = m.held; frames = m.frames })
+after bs m (Some (Known c)) =
     if (closed (layout c.kind).inside)
     (λ _. row_at bs (get_or bs 0 0) (m.held - 1) c.kind c.from c.stop ∷ rows_at bs (record { at = c.stop; held = m.held; frames = m.frames }))
     (λ _. if (leb 17 m.held) (λ _. [])
@@ -113,7 +112,7 @@ module _ (bs : List ℕ) (m : Mark) (f : Frame) (some : 0 < m.held) (is-top : f 
               ∙ ap₂ (λ (n : ℕ) (fs : List Holder). row_at bs (get_or bs 0 0) n kind from to
               ∷ rows_from bs (get_or bs 0 0) (record { end = to; spot = (layout kind).inside } ∷ fs) (from + O.least bs (layout kind).fields from)) d (sym top_is)
 
-          sight_known : rows_at bs m ≡ after bs m (Known (record { kind = kind; from = from; inside = from + O.least bs (layout kind).fields from; stop = to }))
+          sight_known : rows_at bs m ≡ after bs m (Some (Known (record { kind = kind; from = from; inside = from + O.least bs (layout kind).fields from; stop = to })))
           sight_known =
               by_cases (closed (layout kind).inside)
               (λ c. sight_leaf c ∙ sym (first_way (closed (layout kind).inside) _ _ c refl))
@@ -128,16 +127,16 @@ module _ (bs : List ℕ) (m : Mark) (f : Frame) (some : 0 < m.held) (is-top : f 
         mark_past
         (λ to q z. sym (mark_unknown to q z))
         (λ to q z.
-        known_each bs (kind_at f.spot (get_or bs m.at 0)) (m.at + suc (width f.spot)) to (λ r. rows_at bs m ≡ after bs m r)
+        known_each bs (kind_at f.spot (get_or bs m.at 0)) (m.at + suc (width f.spot)) to (λ r. rows_at bs m ≡ after bs m (option_map Known r))
         (sight_short to _ _ q refl z refl)
         (sight_off to _ _ q refl z refl)
         (sight_known to _ _ q refl z refl))
 
 -- what stands at a place moves on, and keeps to the bytes
-abbrev pub Kept : List ℕ → ℕ → Standing → Type 0
-Kept bs at Unread = Unit {0}
-Kept bs at (Unknown to) = (at < to) × (to ≤ length bs)
-Kept bs at (Known c) =
+abbrev pub Kept : List ℕ → ℕ → Option Standing → Type 0
+Kept bs at None = Unit {0}
+Kept bs at (Some (Unknown to)) = (at < to) × (to ≤ length bs)
+Kept bs at (Some (Known c)) =
     (c.from + O.least bs (layout c.kind).fields c.from ≤ c.stop) × (c.stop ≤ length bs)
     × (O.off_globe bs (layout c.kind).fields c.from ≡ false)
 
@@ -147,7 +146,7 @@ kept bs s at end h k =
     (λ to q z. let w = ends_within bs (width s) 0 at end to q in (omega arith, omega arith))
     (λ to q z.
     let w = ends_within bs (width s) 0 at end to q in
-    known_each bs (kind_at s (get_or bs at 0)) (at + suc (width s)) to (Kept bs at) (λ t. tt) (λ t o. tt) (λ t o. (t, omega arith, o)))
+    known_each bs (kind_at s (get_or bs at 0)) (at + suc (width s)) to (λ r. Kept bs at (option_map Known r)) (λ t. tt) (λ t o. tt) (λ t o. (t, omega arith, o)))
 
 -- the language of a text, by its own components
 pub language_said : (bs : List ℕ) (d from to : ℕ) → to ≤ length bs → or_else d (language_in bs (from + O.least bs Text from) to) ≡ language_at bs d from to
@@ -177,15 +176,3 @@ module _ (bs : List ℕ) (s : Sight) (text : is_text (layout s.kind).fields ≡ 
   pub text_row : (language : ℕ) → language ≡ language_at bs (get_or bs 0 0) s.from s.stop
       → record { depth = s.depth; kind = s.kind; a = pos 0; b = pos 0; language = language; length = get_or bs s.from 0 } ≡ seen (told_row bs s)
   text_row language e = rw (text_told, text_long, e)
-
-  pub text_byte : (i : ℕ) → i < get_or bs s.from 0 → Some (get_or bs (s.from + 1 + i) 0) ≡ slice_get (told_row bs s).text i
-  text_byte i h =
-      let l = text_long in
-      let e : suc s.from + i ≡ s.from + 1 + i = omega arith in
-      rw text_told (sym (slice_get-get_or (take (get_or bs s.from 0) (drop (suc s.from) bs)) i 0 (omega arith) ∙ ap Some (rw (get_or-take, get_or-drop, e))))
-
-  pub text_past : (i : ℕ) → get_or bs s.from 0 ≤ i → None ≡ slice_get (told_row bs s).text i
-  text_past i h = let l = text_long in rw text_told (sym (slice_get_past (take (get_or bs s.from 0) (drop (suc s.from) bs)) i (omega arith)))
-
-pub plain_past : (bs : List ℕ) (s : Sight) → is_text (layout s.kind).fields ≡ false → (i : ℕ) → None ≡ slice_get (told_row bs s).text i
-plain_past bs s t i = rw t

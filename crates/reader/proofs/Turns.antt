@@ -1,112 +1,167 @@
 -- One turn of a loop over a holder's parts: a component that was opened, and the rows counted before it.
 -- Assumes nothing.
-use Rattle.std.proofs.Common.{◌≡◌, ℕ, ◌+◌, ◌-◌, ◌<◌, ◌≤◌, true, false, List, length, get_or, None, Ok, Err, sym, refl, ap, ◌∙◌, subst, ap₂, arith}
+use Rattle.std.proofs.Common.{◌≡◌, ℕ, ◌+◌, ◌-◌, ◌<◌, ◌≤◌, true, false, List, length, get_or, Some, None, Ok, Err, sym, refl, ap, ◌∙◌, ap₂, subst, arith}
 use Rattle.grammar.specs.declared.fault.ReadFault.{ReadFault}
 use Rattle.grammar.specs.declared.fault.ReadFault.TheVariants.{Miscounted}
 use Rattle.grammar.specs.declared.table.Spot.{Spot}
-use Rattle.grammar.specs.declared.table.Spot.TheVariants.{Node, Associated}
+use Rattle.grammar.specs.declared.table.Spot.TheVariants.{Descriptions, Node, Reference, Place, Modes, Associated, Nowhere}
 use Rattle.grammar.specs.Format.{width, layout}
 use Rattle.grammar.specs.Reading.{Read, then, is_count, counted, sealed}
 use Rattle.grammar.specs.Offsets.{ends}
 use Rattle.grammar.specs.Checks.{component_of, parts_of, nodes_of, fields_of, plus}
 use Rattle.grammar.proofs.Steps.{parts_done, parts_past, part_fault, part_ok, part_unknown, plus_plus, nodes_done, nodes_over, nodes_node, only_nodes, then_err, node_fault, node_parts, modes_fault, modes_nodes}
 use Rattle.grammar.proofs.Cut.{go_then}
-use Rattle.reader.specs.Opened.{Opened, OpenedNode, Found}
+use Rattle.reader.specs.Opened.{Along, AtData, Opened, OpenedNode, Found, NextPart}
 use Rattle.reader.specs.declared.edge.Reader.{Reader}
 use Rattle.reader.specs.declared.parts.Part.{Part}
 
-module _ (bs : List ℕ) (s : Spot) (level n at end rows : ℕ) (total : Read ℕ) (before : total ≡ plus rows (parts_of bs s level n at end)) where
-  pub turns_done : end ≤ at → Ok rows ≡ total
-  turns_done h = sym (before ∙ ap (plus rows) (parts_done bs s level n at end h) ∙ ap Ok (omega arith))
+-- a component that was opened has its data where the reader stands
+pub at_data : (bs : List ℕ) (s : Spot) (level at : ℕ) (r after : Reader) (p : Part) → Along r after → Found bs s level at r.end p after → AtData p after
+at_data bs s level at r after p a f = (omega (arith, f.3, f.4), f.5, omega (arith, f.6, a.1))
 
-  module _ (h : at < end) (within : end ≤ length bs) (free : (counted s ≡ false) × (sealed s ≡ false)) where
-    pub turn_past : (e : ReadFault) → ends bs (width s) level at end ≡ Err e → Err e ≡ total
-    turn_past e q = sym (before ∙ ap (plus rows) (parts_past bs s level n at end h within free.0 free.1 e q))
+-- what is left for a reader that kept its bytes and its edge
+left_parts : (s : Spot) (level n : ℕ) (r x : Reader) → Along r x → parts_of x.bytes.now s level n x.at x.end ≡ parts_of r.bytes.now s level n x.at r.end
+left_parts s level n r x a = ap₂ (λ (b : List ℕ) (e : ℕ). parts_of b s level n x.at e) a.0 a.1
 
-    -- an unknown component was passed over
-    pub turn_unknown : (after : Reader) → Opened bs s level at end (Ok None) after → after.end ≡ end → total ≡ plus rows (parts_of bs s level n after.at after.end)
-    turn_unknown after f e =
-        before ∙ ap (plus rows) (part_unknown bs s level n at end h within free.0 free.1 after.at f.0 f.1 ∙ ap (parts_of bs s level n after.at) (sym e))
+left_nodes : (c level n own : ℕ) (r x : Reader) → Along r x → nodes_of x.bytes.now c level n own x.at x.end ≡ nodes_of r.bytes.now c level n own x.at r.end
+left_nodes c level n own r x a = ap₂ (λ (b : List ℕ) (e : ℕ). nodes_of b c level n own x.at e) a.0 a.1
 
-    -- a known one was checked
-    module _ (p : Part) (after : Reader) (f : Found bs s level at end p after) where
-      same_part : (r : Read ℕ) → component_of bs p.kind level n p.place after.at p.stop ≡ r → component_of bs p.kind level n at after.at p.stop ≡ r
-      same_part r q = subst (λ (x : ℕ). component_of bs p.kind level n x after.at p.stop ≡ r) f.3 q
+-- the component that was opened, as it lies in the bytes
+opened_is : (bs : List ℕ) (s : Spot) (level n at end : ℕ) (p : Part) (r after : Reader) → r.bytes.now ≡ bs → Along r after → Found bs s level at end p after
+    → component_of bs p.kind level n at after.at p.stop ≡ component_of after.bytes.now p.kind p.level n p.place after.at p.stop
+opened_is bs s level n at end p r after b a f =
+    ap₂ (λ (l x : ℕ). component_of bs p.kind l n x after.at p.stop) (sym f.7) (sym f.3)
+    ∙ ap (λ (b : List ℕ). component_of b p.kind p.level n p.place after.at p.stop) (sym (a.0 ∙ b))
 
-      pub turn_fault : (e : ReadFault) → component_of bs p.kind level n p.place after.at p.stop ≡ Err e → Err e ≡ total
-      turn_fault e q =
-          sym (before ∙ ap (plus rows) (part_fault bs s level n at end h within free.0 free.1 p.stop p.kind f.0 f.1 after.at f.4 e (same_part (Err e) q)))
+-- where nothing unknown is refused, no components are counted
+sealed_counted : (s : Spot) → sealed s ≡ false → counted s ≡ false
+sealed_counted Descriptions h = refl
+sealed_counted Node h = refl
+sealed_counted Reference h = refl
+sealed_counted Place h = refl
+sealed_counted Modes h = refl
+sealed_counted Associated h = h
+sealed_counted Nowhere h = refl
 
-      pub turn_ok : (m to last : ℕ) → component_of bs p.kind level n p.place after.at p.stop ≡ Ok m → to ≡ p.stop → last ≡ end
-          → total ≡ plus (rows + m) (parts_of bs s level n to last)
-      turn_ok m to last q x y =
-          before
-          ∙ ap (plus rows) (part_ok bs s level n at end h within free.0 free.1 p.stop p.kind f.0 f.1 after.at f.4 m (same_part (Ok m) q))
-          ∙ plus_plus rows m (parts_of bs s level n p.stop end)
-          ∙ ap₂ (λ (a b : ℕ). plus (rows + m) (parts_of bs s level n a b)) (sym x) (sym y)
+-- A reader that passed unknown components only, and the component at its place.
+module _ (first r : Reader) (s : Spot) (level : ℕ) (passed : Along first r) (on : first.at ≤ r.at)
+    (same : (n : ℕ) → parts_of first.bytes.now s level n first.at first.end ≡ parts_of r.bytes.now s level n r.at r.end) where
+  pub next_none : (after : Reader) → r.end ≤ r.at → after.at ≡ first.end → NextPart first.bytes.now s level first.at first.end (Ok None) after
+  next_none after h x = (x, λ n. same n ∙ parts_done r.bytes.now s level n r.at r.end h)
+
+  module _ (h : r.at < r.end) (free : sealed s ≡ false) where
+    pub next_fault : (e : ReadFault) → ends r.bytes.now (width s) level r.at r.end ≡ Err e → (n : ℕ) → parts_of first.bytes.now s level n first.at first.end ≡ Err e
+    next_fault e q n = same n ∙ parts_past r.bytes.now s level n r.at r.end h r.within (sealed_counted s free) free e q
+
+    pub next_unknown : (after : Reader) → Along r after → Opened r.bytes.now s level r.at r.end (Ok None) after
+        → (n : ℕ) → parts_of first.bytes.now s level n first.at first.end ≡ parts_of after.bytes.now s level n after.at after.end
+    next_unknown after a f n =
+        same n ∙ part_unknown r.bytes.now s level n r.at r.end h r.within (sealed_counted s free) free after.at f.0 f.1 ∙ sym (left_parts s level n r after a)
+
+  pub next_found : (p : Part) (after : Reader) → Found r.bytes.now s level r.at r.end p after → NextPart first.bytes.now s level first.at first.end (Ok (Some p)) after
+  next_found p after f = (
+    subst (λ (x : ℕ). Found first.bytes.now s level x first.end p after) (sym f.3)
+        (subst (λ (e : ℕ). Found first.bytes.now s level r.at e p after) passed.1
+        (subst (λ (b : List ℕ). Found b s level r.at r.end p after) passed.0 f)),
+    omega (arith, f.3),
+    λ n. same n ∙ left_parts s level n first r passed ∙ ap (λ (x : ℕ). parts_of first.bytes.now s level n x first.end) (sym f.3),
+  )
+
+module _ (r : Reader) (s : Spot) (level n rows : ℕ) (total : Read ℕ) (before : total ≡ plus rows (parts_of r.bytes.now s level n r.at r.end)) where
+  pub turns_done : (after : Reader) → NextPart r.bytes.now s level r.at r.end (Ok None) after → Ok rows ≡ total
+  turns_done after f = sym (before ∙ ap (plus rows) (f.1 n) ∙ ap Ok (omega arith))
+
+  pub turn_past : (e : ReadFault) (after : Reader) → NextPart r.bytes.now s level r.at r.end (Err e) after → Err e ≡ total
+  turn_past e after f = sym (before ∙ ap (plus rows) (f n))
+
+  -- a known component was checked
+  module _ (p : Part) (after : Reader) (a : Along r after) (free : sealed s ≡ false) (f : NextPart r.bytes.now s level r.at r.end (Ok (Some p)) after) where
+    before_end : p.place < r.end
+    before_end = omega (arith, f.0.4, f.0.5, f.0.6)
+
+    same_part : component_of r.bytes.now p.kind level n p.place after.at p.stop ≡ component_of after.bytes.now p.kind p.level n p.place after.at p.stop
+    same_part = opened_is r.bytes.now s level n p.place r.end p r after refl a f.0
+
+    pub turn_fault : (e : ReadFault) → component_of after.bytes.now p.kind p.level n p.place after.at p.stop ≡ Err e → Err e ≡ total
+    turn_fault e q =
+        sym (before ∙ ap (plus rows) (f.2 n ∙ part_fault r.bytes.now s level n p.place r.end before_end r.within (sealed_counted s free) free p.stop p.kind f.0.0 f.0.1 after.at f.0.4 e (same_part ∙ q)))
+
+    pub turn_ok : (m : ℕ) (last : Reader) → component_of after.bytes.now p.kind p.level n p.place after.at p.stop ≡ Ok m → last.at ≡ p.stop → Along after last
+        → total ≡ plus (rows + m) (parts_of last.bytes.now s level n last.at last.end)
+    turn_ok m last q x y =
+        before
+        ∙ ap (plus rows) (f.2 n ∙ part_ok r.bytes.now s level n p.place r.end before_end r.within (sealed_counted s free) free p.stop p.kind f.0.0 f.0.1 after.at f.0.4 m (same_part ∙ q))
+        ∙ plus_plus rows m (parts_of r.bytes.now s level n p.stop r.end)
+        ∙ ap (λ (x : ℕ). plus (rows + m) (parts_of r.bytes.now s level n x r.end)) (sym x)
+        ∙ ap (plus (rows + m)) (sym (left_parts s level n r last (y.0 ∙ a.0, y.1 ∙ a.1)))
 
 -- The same over the nodes that associated modes count, c of which are still to come.
-module _ (bs : List ℕ) (level n own at end rows : ℕ) (total : Read ℕ) where
-  pub nodes_end : total ≡ plus rows (nodes_of bs 0 level n own at end) → at ≡ end → Ok rows ≡ total
-  nodes_end before h = sym (before ∙ ap (plus rows) (nodes_done bs level n own at end h) ∙ ap Ok (omega arith))
+module _ (r : Reader) (level n own rows : ℕ) (total : Read ℕ) where
+  pub nodes_end : total ≡ plus rows (nodes_of r.bytes.now 0 level n own r.at r.end) → r.at ≡ r.end → Ok rows ≡ total
+  nodes_end before h = sym (before ∙ ap (plus rows) (nodes_done r.bytes.now level n own r.at r.end h) ∙ ap Ok (omega arith))
 
-  pub nodes_left : total ≡ plus rows (nodes_of bs 0 level n own at end) → (at ≡ end → ⊥) → Err (Miscounted own (level - 1)) ≡ total
-  nodes_left before h = sym (before ∙ ap (plus rows) (nodes_over bs level n own at end h))
+  pub nodes_left : total ≡ plus rows (nodes_of r.bytes.now 0 level n own r.at r.end) → (r.at ≡ r.end → ⊥) → Err (Miscounted own (level - 1)) ≡ total
+  nodes_left before h = sym (before ∙ ap (plus rows) (nodes_over r.bytes.now level n own r.at r.end h))
 
-  module _ (c : ℕ) (some : 0 < c) (before : total ≡ plus rows (nodes_of bs c level n own at end)) where
-    pub nodes_unopened : (e : ReadFault) (after : Reader) → OpenedNode bs Associated level own at end (Err e) after → Err e ≡ total
+  module _ (c : ℕ) (some : 0 < c) (before : total ≡ plus rows (nodes_of r.bytes.now c level n own r.at r.end)) where
+    pub nodes_unopened : (e : ReadFault) (after : Reader) → OpenedNode r.bytes.now Associated level own r.at r.end (Err e) after → Err e ≡ total
     nodes_unopened e after f = sym (before ∙ ap (plus rows) (f c n some))
 
-    module _ (within : end ≤ length bs) (p : Part) (after : Reader) (f : Found bs Associated level at end p after) where
-      one : (r : Read ℕ) → component_of bs p.kind level n p.place after.at p.stop ≡ r → component_of bs 1 level n at (at + 3) p.stop ≡ r
-      one r q =
-          let k = only_nodes (get_or bs at 0) p.kind f.1 f.2 in
-          subst (λ (x : ℕ). component_of bs x level n at (at + 3) p.stop ≡ r) k.1
-          (subst (λ (x : ℕ). component_of bs p.kind level n x (at + 3) p.stop ≡ r) f.3
-          (subst (λ (x : ℕ). component_of bs p.kind level n p.place x p.stop ≡ r) f.4 q))
+    module _ (p : Part) (after : Reader) (a : Along r after) (f : Found r.bytes.now Associated level r.at r.end p after) where
+      one : component_of r.bytes.now 1 level n r.at (r.at + 3) p.stop ≡ component_of after.bytes.now p.kind p.level n p.place after.at p.stop
+      one =
+          let k = only_nodes (get_or r.bytes.now r.at 0) p.kind f.1 f.2 in
+          ap₂ (λ (x y : ℕ). component_of r.bytes.now x level n r.at y p.stop) (sym k.1) (sym f.4)
+          ∙ opened_is r.bytes.now Associated level n r.at r.end p r after refl a f
 
-      nodes_one : nodes_of bs c level n own at end ≡ then (component_of bs 1 level n at (at + 3) p.stop) (λ m. plus m (nodes_of bs (c - 1) level n own p.stop end))
+      nodes_one : nodes_of r.bytes.now c level n own r.at r.end
+          ≡ then (component_of r.bytes.now 1 level n r.at (r.at + 3) p.stop) (λ m. plus m (nodes_of r.bytes.now (c - 1) level n own p.stop r.end))
       nodes_one =
-          let k = only_nodes (get_or bs at 0) p.kind f.1 f.2 in
-          nodes_node bs level n own at end c some (omega (arith, f.4, f.5, f.6)) within p.stop f.0 k.0
+          let k = only_nodes (get_or r.bytes.now r.at 0) p.kind f.1 f.2 in
+          nodes_node r.bytes.now level n own r.at r.end c some (omega (arith, f.4, f.5, f.6)) r.within p.stop f.0 k.0
 
-      pub nodes_fault : (e : ReadFault) → component_of bs p.kind level n p.place after.at p.stop ≡ Err e → Err e ≡ total
-      nodes_fault e q = sym (before ∙ ap (plus rows) (nodes_one ∙ then_err (component_of bs 1 level n at (at + 3) p.stop) _ e (one (Err e) q)))
+      pub nodes_fault : (e : ReadFault) → component_of after.bytes.now p.kind p.level n p.place after.at p.stop ≡ Err e → Err e ≡ total
+      nodes_fault e q = sym (before ∙ ap (plus rows) (nodes_one ∙ then_err (component_of r.bytes.now 1 level n r.at (r.at + 3) p.stop) _ e (one ∙ q)))
 
-      pub nodes_ok : (m to last less : ℕ) → component_of bs p.kind level n p.place after.at p.stop ≡ Ok m → to ≡ p.stop → last ≡ end → less ≡ c - 1
-          → total ≡ plus (rows + m) (nodes_of bs less level n own to last)
-      nodes_ok m to last less q x y z =
+      pub nodes_ok : (m : ℕ) (last : Reader) (less : ℕ) → component_of after.bytes.now p.kind p.level n p.place after.at p.stop ≡ Ok m → last.at ≡ p.stop
+          → Along after last → less ≡ c - 1 → total ≡ plus (rows + m) (nodes_of last.bytes.now less level n own last.at last.end)
+      nodes_ok m last less q x y z =
           before
-          ∙ ap (plus rows) (nodes_one ∙ go_then (component_of bs 1 level n at (at + 3) p.stop) _ (one (Ok m) q) refl)
-          ∙ plus_plus rows m (nodes_of bs (c - 1) level n own p.stop end)
-          ∙ ap₂ (λ (a b : ℕ). plus (rows + m) (nodes_of bs (c - 1) level n own a b)) (sym x) (sym y)
-          ∙ ap (λ (a : ℕ). plus (rows + m) (nodes_of bs a level n own to last)) (sym z)
+          ∙ ap (plus rows) (nodes_one ∙ go_then (component_of r.bytes.now 1 level n r.at (r.at + 3) p.stop) _ (one ∙ q) refl)
+          ∙ plus_plus rows m (nodes_of r.bytes.now (c - 1) level n own p.stop r.end)
+          ∙ ap₂ (λ (i x : ℕ). plus (rows + m) (nodes_of r.bytes.now i level n own x r.end)) (sym z) (sym x)
+          ∙ ap (plus (rows + m)) (sym (left_nodes less level n own r last (y.0 ∙ a.0, y.1 ∙ a.1)))
 
--- What a component tells, by what was counted of it so far.
-module _ (bs : List ℕ) (k level n at from to : ℕ) (known : 0 < k) (some : 1 ≤ level) (h : from ≤ to) (within : to ≤ length bs)
-    (start stop : ℕ) (is-start : start ≡ from) (is_stop : stop ≡ to) where
-  fields_there : (r : Read ℕ) → fields_of bs (layout k) level at start stop ≡ r → fields_of bs (layout k) level at from to ≡ r
-  fields_there r q = ap₂ (λ (x y : ℕ). fields_of bs (layout k) level at x y) (sym is-start) (sym is_stop) ∙ q
+-- What the component p tells, by what was counted of it so far: `first` stands past its fields, and `here` further on.
+module _ (r : Reader) (p : Part) (n : ℕ) (known : 0 < p.kind) (some : 1 ≤ p.level) (d : AtData p r) where
+  within : p.stop ≤ length r.bytes.now
+  within = omega (arith, d.2, r.within)
 
-  module _ (node : (layout k).inside ≡ Node) (few : n < 8) where
-    pub node_refused : (e : ReadFault) → fields_of bs (layout k) level at start stop ≡ Err e → Err e ≡ component_of bs k level n at from to
-    node_refused e q = sym (node_fault bs k level n at from to known some h within node few e (fields_there (Err e) q))
+  module _ (node : (layout p.kind).inside ≡ Node) (few : n < 8) where
+    pub node_refused : (e : ReadFault) → fields_of r.bytes.now (layout p.kind) p.level p.place r.at p.stop ≡ Err e
+        → Err e ≡ component_of r.bytes.now p.kind p.level n p.place r.at p.stop
+    node_refused e q = sym (node_fault r.bytes.now p.kind p.level n p.place r.at p.stop known some d.1 within node few e q)
 
-    pub node_so_far : (a first last : ℕ) → fields_of bs (layout k) level at start stop ≡ Ok a → first ≡ a → last ≡ to → (rows here edge : ℕ)
-        → plus 1 (parts_of bs Node (level + 1) (n + 1) first last) ≡ plus rows (parts_of bs Node (level + 1) (n + 1) here edge)
-        → component_of bs k level n at from to ≡ plus rows (parts_of bs Node (level + 1) (n + 1) here edge)
-    node_so_far a first last q x y rows here edge i =
-        node_parts bs k level n at from to known some h within node few a (fields_there (Ok a) q)
-        ∙ ap₂ (λ (u v : ℕ). plus 1 (parts_of bs Node (level + 1) (n + 1) u v)) (sym x) (sym y) ∙ i
+    pub node_so_far : (a : ℕ) (first here : Reader) → fields_of r.bytes.now (layout p.kind) p.level p.place r.at p.stop ≡ Ok a
+        → first.at ≡ a → first.bytes.now ≡ r.bytes.now → first.end ≡ p.stop → (rows : ℕ)
+        → plus 1 (parts_of first.bytes.now Node (p.level + 1) (n + 1) first.at first.end) ≡ plus rows (parts_of here.bytes.now Node (p.level + 1) (n + 1) here.at here.end)
+        → component_of r.bytes.now p.kind p.level n p.place r.at p.stop ≡ plus rows (parts_of here.bytes.now Node (p.level + 1) (n + 1) here.at here.end)
+    node_so_far a first here q x y z rows i =
+        node_parts r.bytes.now p.kind p.level n p.place r.at p.stop known some d.1 within node few a q
+        ∙ ap (λ (b : List ℕ). plus 1 (parts_of b Node (p.level + 1) (n + 1) a p.stop)) (sym y)
+        ∙ ap₂ (λ (u v : ℕ). plus 1 (parts_of first.bytes.now Node (p.level + 1) (n + 1) u v)) (sym x) (sym z) ∙ i
 
-  module _ (few : n ≤ 8) (modes : is_count (layout k).fields ≡ true) where
-    pub modes_refused : (e : ReadFault) → fields_of bs (layout k) level at start stop ≡ Err e → Err e ≡ component_of bs k level n at from to
-    modes_refused e q = sym (modes_fault bs k level n at from to known some h within few modes e (fields_there (Err e) q))
+  module _ (few : n ≤ 8) (modes : is_count (layout p.kind).fields ≡ true) where
+    pub modes_refused : (e : ReadFault) → fields_of r.bytes.now (layout p.kind) p.level p.place r.at p.stop ≡ Err e
+        → Err e ≡ component_of r.bytes.now p.kind p.level n p.place r.at p.stop
+    modes_refused e q = sym (modes_fault r.bytes.now p.kind p.level n p.place r.at p.stop known some d.1 within few modes e q)
 
-    pub modes_so_far : (a first last : ℕ) → fields_of bs (layout k) level at start stop ≡ Ok a → first ≡ a → last ≡ to → (rows less here edge : ℕ)
-        → plus 1 (nodes_of bs (get_or bs start 0) (level + 1) n at first last) ≡ plus rows (nodes_of bs less (level + 1) n at here edge)
-        → component_of bs k level n at from to ≡ plus rows (nodes_of bs less (level + 1) n at here edge)
-    modes_so_far a first last q x y rows less here edge i =
-        modes_nodes bs k level n at from to known some h within few modes a (fields_there (Ok a) q)
-        ∙ ap (λ (u : ℕ). plus 1 (nodes_of bs (get_or bs u 0) (level + 1) n at a to)) (sym is-start)
-        ∙ ap₂ (λ (u v : ℕ). plus 1 (nodes_of bs (get_or bs start 0) (level + 1) n at u v)) (sym x) (sym y) ∙ i
+    pub modes_so_far : (a count : ℕ) (first here : Reader) → fields_of r.bytes.now (layout p.kind) p.level p.place r.at p.stop ≡ Ok a
+        → count ≡ get_or r.bytes.now r.at 0 → first.at ≡ a → first.bytes.now ≡ r.bytes.now → first.end ≡ p.stop → (rows less : ℕ)
+        → plus 1 (nodes_of first.bytes.now count (p.level + 1) n p.place first.at first.end)
+        ≡ plus rows (nodes_of here.bytes.now less (p.level + 1) n p.place here.at here.end)
+        → component_of r.bytes.now p.kind p.level n p.place r.at p.stop ≡ plus rows (nodes_of here.bytes.now less (p.level + 1) n p.place here.at here.end)
+    modes_so_far a count first here q k x y z rows less i =
+        modes_nodes r.bytes.now p.kind p.level n p.place r.at p.stop known some d.1 within few modes a q
+        ∙ ap₂ (λ (b : List ℕ) (c : ℕ). plus 1 (nodes_of b c (p.level + 1) n p.place a p.stop)) (sym y) (sym k)
+        ∙ ap₂ (λ (u v : ℕ). plus 1 (nodes_of first.bytes.now count (p.level + 1) n p.place u v)) (sym x) (sym z) ∙ i

@@ -6,7 +6,7 @@ use Rattle.grammar.specs.Offsets as O
 use Rattle.grammar.specs.Walk.{row_at}
 use Rattle.reader.specs.declared.sights.Sight.{Sight}
 use Rattle.reader.specs.declared.sights.Step.{Step}
-use Rattle.reader.specs.declared.sights.Step.TheVariants.{Row, Pass, End}
+use Rattle.reader.specs.declared.sights.Step.TheVariants.{Row, Pass}
 use Rattle.reader.specs.declared.marks.Frame.{Frame}
 use Rattle.reader.specs.declared.marks.Mark.{Mark}
 use Rattle.reader.specs.declared.edge.Reader.{Reader}
@@ -23,11 +23,11 @@ OpenAt bs m f = (0 < m.held) × (f ≡ slice_index_or m.frames (m.held - 1) blan
 
 -- a known component stands there
 abbrev pub StandingAt : List ℕ → Mark → Frame → Component → Type 0
-StandingAt bs m f c = OpenAt bs m f × (Known c ≡ stands_at bs f.spot m.at f.end)
+StandingAt bs m f c = OpenAt bs m f × (Some (Known c) ≡ stands_at bs f.spot m.at f.end)
 
 -- a known component was opened there
-abbrev pub FoundAt : List ℕ → Mark → Frame → Reader → Part → Type 0
-FoundAt bs m f after p = OpenAt bs m f × Found bs f.spot 0 m.at f.end p after
+abbrev pub FoundAt : Mark → Frame → Reader → Part → Type 0
+FoundAt m f after p = OpenAt after.bytes.now m f × Found after.bytes.now f.spot 0 m.at f.end p after
 
 -- the row of a component that was found
 abbrev pub told_row : List ℕ → Sight → Told
@@ -44,10 +44,10 @@ abbrev pub Seen : List ℕ → Mark → Sight → Type 0
 Seen bs m s = (rows_at bs m ≡ told_row bs s ∷ rows_at bs s.next) × Within bs s
 
 -- a row, or a mark with the same rows and less left, or no row
-abbrev pub Stepped : List ℕ → Mark → Step → Type 0
-Stepped bs m (Row s) = Seen bs m s
-Stepped bs m (Pass n) = (rows_at bs n ≡ rows_at bs m) × (left bs n < left bs m)
-Stepped bs m End = rows_at bs m ≡ []
+abbrev pub Stepped : List ℕ → Mark → Option Step → Type 0
+Stepped bs m (Some (Row s)) = Seen bs m s
+Stepped bs m (Some (Pass n)) = (rows_at bs n ≡ rows_at bs m) × (left bs n < left bs m)
+Stepped bs m None = rows_at bs m ≡ []
 
 -- the first row from the mark on, if there is one
 abbrev pub Sighted : List ℕ → Mark → Option Sight → Type 0

@@ -6,12 +6,12 @@ ghost use Rattle.reader.specs.Whole.{rows_of, Opens};
 
 use super::checks::check;
 use super::marks::{Frame, Mark};
-use super::sights::{byte_of, copy_to, find, row_of, text_of};
+use super::sights::find;
 use super::standings::find_descriptions;
 use grammar::{ReadFault, Spot};
-use location::{Location, Row};
+use location::{Location, Row, copy_front};
 
-// A legal container, by its bytes.
+// A legal container, by its bytes, and where the data of its descriptions start and end: no `Range`, which is not `Copy`.
 #[derive(Clone, Copy)]
 pub struct Container<'a> {
     bytes: &'a [u8],
@@ -61,29 +61,21 @@ impl<'a> Location for Container<'a> {
     }
 
     fn row(&self, m: Mark) -> Option<Row> {
-        match find(self.bytes, m) {
-            Some(sight) => Some(row_of(self.bytes, &sight)),
-            None => None,
-        }
+        Some(find(self.bytes, m)?.row(self.bytes))
     }
 
     fn byte(&self, m: Mark, i: usize) -> Option<u8> {
-        match find(self.bytes, m) {
-            Some(sight) => byte_of(self.bytes, &sight, i),
-            None => None,
-        }
+        find(self.bytes, m)?.byte(self.bytes, i)
     }
 
     fn next(&self, m: Mark) -> Option<Mark> {
-        match find(self.bytes, m) {
-            Some(sight) => Some(sight.next),
-            None => None,
-        }
+        Some(find(self.bytes, m)?.next)
     }
 
     fn copy_text(&self, m: Mark, out: &mut [u8]) -> bool {
+        // No `is_none_or`: what a closure wrote to `out` is not known after it.
         match find(self.bytes, m) {
-            Some(sight) => copy_to(text_of(self.bytes, &sight), out),
+            Some(sight) => copy_front(sight.text(self.bytes), out),
             None => true,
         }
     }

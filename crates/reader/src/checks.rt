@@ -5,10 +5,10 @@ ghost use Rattle.grammar.specs.Format.{layout};
 ghost use Rattle.grammar.specs.Reading.{closed, is_count, reading};
 ghost use Rattle.grammar.specs.Checks.{leafy, component_of, parts_of, tops_of, many};
 ghost use Rattle.grammar.specs.Theorems.{ToldExactly};
-ghost use Rattle.reader.specs.Opened.{OpenedNode};
+ghost use Rattle.reader.specs.Opened.{OpenedNode, Along, AtData};
 
-use super::edge::{Reader, narrow};
-use super::parts::{Part, header, open_part, pass_data, pass_fields};
+use super::edge::{Reader, narrowed};
+use super::parts::Part;
 use grammar::{DESCRIPTIONS, ReadFault, Spot, TOP_WIDTH, layout_of};
 
 // The most bytes of a container.
@@ -18,175 +18,136 @@ const LONGEST: usize = 65_535;
 const MOST_NODES: u8 = 8;
 
 // A component that holds none of its own, at whose data the reader stands.
-fn check_leaf(bytes: &[u8], reader: &mut Reader, part: Part, level: u8) -> Result<usize, ReadFault>
-    requires order { (reader.old.at ≤ part.stop) × (part.stop ≤ reader.old.end) }
-    requires within { reader.old.end ≤ length bytes.now }
-    requires place { part.place < reader.old.at }
-    requires levels { (1 ≤ level) × (level < 255) }
+fn check_leaf(reader: &mut Reader<'_>, part: Part) -> Result<usize, ReadFault>
+    requires here { AtData part reader.old }
+    requires levels { (1 ≤ part.level) × (part.level < 255) }
     requires leaf { (0 < part.kind) × (closed (layout part.kind).inside ≡ true) }
-    ensures value { (n : ℕ) → n ≤ 8 → result ≡ component_of bytes.now part.kind level n part.place reader.old.at part.stop }
-    ensures edge { reader.new.end ≡ reader.old.end }
+    ensures value { (n : ℕ) → n ≤ 8 → result ≡ component_of reader.old.bytes.now part.kind part.level n part.place reader.old.at part.stop }
+    ensures edge { Along reader.old reader.new }
     ensures moved { IfOk result (λ m. (reader.new.at ≡ part.stop) × (part.place + m ≤ part.stop)) }
 {
-    let inner = narrow(reader, part.stop);
-    pass_data(bytes, inner.reader, part.kind, part.place, level)?;
+    let inner = narrowed!(reader, part.stop);
+    inner.reader.pass_data(part)?;
     Ok(1)
 }
 
 // All components from the reader's place to its edge, at a spot where none holds any of its own.
-fn check_leaves(
-    bytes: &[u8],
-    reader: &mut Reader,
-    spot: Spot,
-    level: u8,
-) -> Result<usize, ReadFault>
-    requires order { reader.old.at ≤ reader.old.end }
-    requires within { reader.old.end ≤ length bytes.now }
+// Its loop stands three times, with another check in it: of a closure every caller would have to say what that check says of any bytes and level.
+fn check_leaves(reader: &mut Reader<'_>, spot: Spot, level: u8) -> Result<usize, ReadFault>
     requires levels { (1 ≤ level) × (level < 255) }
     requires leaves { leafy spot ≡ true }
     requires some { closed spot ≡ true → reader.old.at ≡ reader.old.end }
-    ensures value { (n : ℕ) → n ≤ 8 → result ≡ parts_of bytes.now spot level n reader.old.at reader.old.end }
-    ensures edge { reader.new.end ≡ reader.old.end }
+    ensures value { (n : ℕ) → n ≤ 8 → result ≡ parts_of reader.old.bytes.now spot level n reader.old.at reader.old.end }
+    ensures edge { Along reader.old reader.new }
     ensures moved { IfOk result (λ m. (reader.new.at ≡ reader.old.end) × (reader.old.at + m ≤ reader.old.end)) }
 {
     let mut rows = 0;
-    while reader.at < reader.end {
-        if let Some(part) = open_part(bytes, reader, spot, level)? {
-            rows += check_leaf(bytes, reader, part, level)?;
-        }
+    while let Some(part) = reader.next_part(spot, level)? {
+        rows += check_leaf(reader, part)?;
     }
     Ok(rows)
 }
 
 // A component that holds leaves at most, at whose data the reader stands.
-fn check_flat(bytes: &[u8], reader: &mut Reader, part: Part, level: u8) -> Result<usize, ReadFault>
-    requires order { (reader.old.at ≤ part.stop) × (part.stop ≤ reader.old.end) }
-    requires within { reader.old.end ≤ length bytes.now }
-    requires place { part.place < reader.old.at }
-    requires levels { (1 ≤ level) × (level < 254) }
+fn check_flat(reader: &mut Reader<'_>, part: Part) -> Result<usize, ReadFault>
+    requires here { AtData part reader.old }
+    requires levels { (1 ≤ part.level) × (part.level < 254) }
     requires flat { (0 < part.kind) × (leafy (layout part.kind).inside ≡ true) }
-    ensures value { (n : ℕ) → n ≤ 8 → result ≡ component_of bytes.now part.kind level n part.place reader.old.at part.stop }
-    ensures edge { reader.new.end ≡ reader.old.end }
+    ensures value { (n : ℕ) → n ≤ 8 → result ≡ component_of reader.old.bytes.now part.kind part.level n part.place reader.old.at part.stop }
+    ensures edge { Along reader.old reader.new }
     ensures moved { IfOk result (λ m. (reader.new.at ≡ part.stop) × (part.place + m ≤ part.stop)) }
 {
-    let inner = narrow(reader, part.stop);
-    pass_data(bytes, inner.reader, part.kind, part.place, level)?;
-    let rows = check_leaves(bytes, inner.reader, layout_of(part.kind).inside, level + 1)?;
+    let inner = narrowed!(reader, part.stop);
+    inner.reader.pass_data(part)?;
+    let rows = check_leaves(inner.reader, layout_of(part.kind).inside, part.level + 1)?;
     Ok(rows + 1)
 }
 
 // Opens the next of the nodes that the associated modes at `place` count.
-fn open_node(bytes: &[u8], reader: &mut Reader, place: usize, level: u8) -> Result<Part, ReadFault>
-    requires order { reader.old.at ≤ reader.old.end }
-    requires within { reader.old.end ≤ length bytes.now }
+fn open_node(reader: &mut Reader<'_>, place: usize, level: u8) -> Result<Part, ReadFault>
     requires levels { 1 ≤ level }
-    ensures edge { reader.new.end ≡ reader.old.end }
-    ensures found { OpenedNode bytes.now Associated level place reader.old.at reader.old.end result reader.new }
+    ensures edge { Along reader.old reader.new }
+    ensures found { OpenedNode reader.old.bytes.now Associated level place reader.old.at reader.old.end result reader.new }
 {
+    let miscounted = ReadFault::Miscounted {
+        place,
+        level: level - 1,
+    };
     if reader.at == reader.end {
-        return Err(ReadFault::Miscounted {
-            place,
-            level: level - 1,
-        });
+        return Err(miscounted);
     }
-    match open_part(bytes, reader, Spot::Associated, level)? {
-        Some(part) => Ok(part),
-        None => Err(ReadFault::Miscounted {
-            place,
-            level: level - 1,
-        }),
-    }
+    reader.open_part(Spot::Associated, level)?.ok_or(miscounted)
 }
 
 // A node at whose data the reader stands, inside so many others.
 #[cycle(check_modes_check_node)]
-fn check_node(
-    bytes: &[u8],
-    reader: &mut Reader,
-    part: Part,
-    level: u8,
-    nodes: u8,
-) -> Result<usize, ReadFault>
-    requires order { (reader.old.at ≤ part.stop) × (part.stop ≤ reader.old.end) }
-    requires within { reader.old.end ≤ length bytes.now }
-    requires place { part.place < reader.old.at }
-    requires levels { (1 ≤ level) × ((level ≤ 2 * nodes + 1) × (nodes ≤ 8)) }
+fn check_node(reader: &mut Reader<'_>, part: Part, nodes: u8) -> Result<usize, ReadFault>
+    requires here { AtData part reader.old }
+    requires levels { (1 ≤ part.level) × ((part.level ≤ 2 * nodes + 1) × (nodes ≤ 8)) }
     requires node { (0 < part.kind) × ((layout part.kind).inside ≡ Node) }
-    ensures value { result ≡ component_of bytes.now part.kind level nodes part.place reader.old.at part.stop }
-    ensures edge { reader.new.end ≡ reader.old.end }
+    ensures value { result ≡ component_of reader.old.bytes.now part.kind part.level nodes part.place reader.old.at part.stop }
+    ensures edge { Along reader.old reader.new }
     ensures moved { IfOk result (λ m. (reader.new.at ≡ part.stop) × (part.place + m ≤ part.stop)) }
 {
     if nodes == MOST_NODES {
         return Err(ReadFault::TooDeep {
             place: part.place,
-            level,
+            level: part.level,
         });
     }
-    let inner = narrow(reader, part.stop);
-    pass_fields(bytes, inner.reader, part.kind, part.place, level)?;
+    let inner = narrowed!(reader, part.stop);
+    inner.reader.pass_fields(part)?;
     let mut rows = 1;
-    while inner.reader.at < inner.reader.end {
-        if let Some(held) = open_part(bytes, inner.reader, Spot::Node, level + 1)? {
-            rows += if layout_of(held.kind).counts_nodes() {
-                check_modes(bytes, inner.reader, held, level + 1, nodes + 1)?
-            } else {
-                check_flat(bytes, inner.reader, held, level + 1)?
-            };
-        }
+    while let Some(held) = inner.reader.next_part(Spot::Node, part.level + 1)? {
+        rows += if layout_of(held.kind).counts_nodes() {
+            check_modes(inner.reader, held, nodes + 1)?
+        } else {
+            check_flat(inner.reader, held)?
+        };
     }
     Ok(rows)
 }
 
 // Associated modes at whose data the reader stands, inside so many nodes.
 #[cycle(check_modes_check_node)]
-fn check_modes(
-    bytes: &[u8],
-    reader: &mut Reader,
-    part: Part,
-    level: u8,
-    nodes: u8,
-) -> Result<usize, ReadFault>
-    requires order { (reader.old.at ≤ part.stop) × (part.stop ≤ reader.old.end) }
-    requires within { reader.old.end ≤ length bytes.now }
-    requires place { part.place < reader.old.at }
-    requires levels { (1 ≤ level) × ((level ≤ 2 * nodes) × (nodes ≤ 8)) }
+fn check_modes(reader: &mut Reader<'_>, part: Part, nodes: u8) -> Result<usize, ReadFault>
+    requires here { AtData part reader.old }
+    requires levels { (1 ≤ part.level) × ((part.level ≤ 2 * nodes) × (nodes ≤ 8)) }
     requires modes { (0 < part.kind) × (is_count (layout part.kind).fields ≡ true) }
-    ensures value { result ≡ component_of bytes.now part.kind level nodes part.place reader.old.at part.stop }
-    ensures edge { reader.new.end ≡ reader.old.end }
+    ensures value { result ≡ component_of reader.old.bytes.now part.kind part.level nodes part.place reader.old.at part.stop }
+    ensures edge { Along reader.old reader.new }
     ensures moved { IfOk result (λ m. (reader.new.at ≡ part.stop) × (part.place + m ≤ part.stop)) }
 {
-    let inner = narrow(reader, part.stop);
+    let bytes = reader.bytes;
+    let inner = narrowed!(reader, part.stop);
     let start = inner.reader.at;
-    pass_fields(bytes, inner.reader, part.kind, part.place, level)?;
+    inner.reader.pass_fields(part)?;
     let count = bytes[start];
     let mut rows = 1;
     for _ in 0..count {
-        let node = open_node(bytes, inner.reader, part.place, level + 1)?;
-        rows += check_node(bytes, inner.reader, node, level + 1, nodes)?;
+        let node = open_node(inner.reader, part.place, part.level + 1)?;
+        rows += check_node(inner.reader, node, nodes)?;
     }
     if inner.reader.at != inner.reader.end {
         return Err(ReadFault::Miscounted {
             place: part.place,
-            level,
+            level: part.level,
         });
     }
     Ok(rows)
 }
 
 // The descriptions at whose data the reader stands, which end at `stop`.
-fn check_descriptions(bytes: &[u8], reader: &mut Reader, stop: usize) -> Result<usize, ReadFault>
+fn check_descriptions(reader: &mut Reader<'_>, stop: usize) -> Result<usize, ReadFault>
     requires order { (reader.old.at ≤ stop) × (stop ≤ reader.old.end) }
-    requires within { reader.old.end ≤ length bytes.now }
-    ensures value { result ≡ parts_of bytes.now Descriptions 1 0 reader.old.at stop }
-    ensures edge { reader.new.end ≡ reader.old.end }
+    ensures value { result ≡ parts_of reader.old.bytes.now Descriptions 1 0 reader.old.at stop }
+    ensures edge { Along reader.old reader.new }
     ensures moved { IfOk result (λ m. (reader.new.at ≡ stop) × (reader.old.at + m ≤ stop)) }
 {
-    let inner = narrow(reader, stop);
+    let inner = narrowed!(reader, stop);
     let mut rows = 0;
-    while inner.reader.at < inner.reader.end {
-        if let Some(node) = open_part(bytes, inner.reader, Spot::Descriptions, 1)? {
-            rows += check_node(bytes, inner.reader, node, 1, 0)?;
-        }
+    while let Some(node) = inner.reader.next_part(Spot::Descriptions, 1)? {
+        rows += check_node(inner.reader, node, 0)?;
     }
     Ok(rows)
 }
@@ -198,25 +159,24 @@ fn check_tops(bytes: &[u8]) -> Result<usize, ReadFault>
     ensures few { IfOk result (λ n. n ≤ length bytes.now) }
 {
     let mut reader = Reader {
+        bytes,
         at: 1,
         end: bytes.len(),
     };
-    let mut seen = false;
-    let mut rows = 0;
+    let mut rows = None;
     while reader.at < reader.end {
         let place = reader.at;
-        let stop = header(bytes, &mut reader, TOP_WIDTH, 0)?;
+        let stop = reader.header(TOP_WIDTH, 0)?;
         if bytes[place] == DESCRIPTIONS {
-            if seen {
+            if rows.is_some() {
                 return Err(ReadFault::SecondDescriptions { place });
             }
-            seen = true;
-            rows += check_descriptions(bytes, &mut reader, stop)?;
+            rows = Some(check_descriptions(&mut reader, stop)?);
         } else {
             reader.at = stop;
         }
     }
-    Ok(rows)
+    Ok(rows.unwrap_or(0))
 }
 
 // How many rows a container tells, or why the bytes are none: their first fault.
@@ -228,7 +188,7 @@ pub fn check(bytes: &[u8]) -> Result<usize, ReadFault>
     if bytes.len() > LONGEST {
         return Err(ReadFault::TooLong);
     }
-    if bytes.len() == 0 {
+    if bytes.is_empty() {
         return Err(ReadFault::Empty);
     }
     check_tops(bytes)

@@ -20,17 +20,12 @@ const BLANK: Frame = Frame {
 };
 
 // A place, and the holders around it, of which so many count: the outermost first.
+// An array with its count beside, for a mark is `Copy` and uses no heap, and an `ArrayVec` is not `Copy`.
 #[derive(Clone, Copy)]
 pub struct Mark {
     pub(crate) at: usize,
     pub(crate) held: u8,
     pub(crate) frames: [Frame; MOST_HOLDERS],
-}
-
-fn frame_at(frames: &[Frame], i: usize) -> Frame
-    ensures { result ≡ slice_index_or frames.now i blank_frame }
-{
-    if i < frames.len() { frames[i] } else { BLANK }
 }
 
 // Puts a holder in, on so many others.
@@ -59,16 +54,15 @@ impl Mark {
         requires { 0 < self.now.held }
         ensures { result ≡ slice_index_or self.now.frames (self.now.held - 1) blank_frame }
     {
-        frame_at(&self.frames, usize::from(self.held - 1))
+        let innermost = self.frames.get(usize::from(self.held - 1));
+        innermost.copied().unwrap_or(BLANK)
     }
 
     // Another place inside the same holders.
     pub(crate) fn moved(self, at: usize) -> Mark
         ensures { result ≡ record { at = at; held = self.held; frames = self.frames } }
     {
-        let mut mark = self;
-        mark.at = at;
-        mark
+        Mark { at, ..self }
     }
 
     // The same place, outside the innermost holder.
@@ -76,9 +70,10 @@ impl Mark {
         requires { 0 < self.held }
         ensures { result ≡ record { at = self.at; held = self.held - 1; frames = self.frames } }
     {
-        let mut mark = self;
-        mark.held -= 1;
-        mark
+        Mark {
+            held: self.held - 1,
+            ..self
+        }
     }
 
     // The same holders, and one more inside them.

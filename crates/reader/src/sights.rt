@@ -1,17 +1,17 @@
 // What is found at a mark of a container.
-ghost use Rattle.std.specs.Prelude.{◌≡◌, ◌+◌, ◌<◌, ◌≤◌, length as long, if◌then◌else◌, nat_le, slice_index};
+ghost use Rattle.std.specs.Prelude.{◌≡◌, ◌+◌, ◌<◌, ◌≤◌, length as long, slice_index};
 ghost use Rattle.std.specs.List.{slice_get};
 ghost use Rattle.grammar.specs.declared.table.Fields.TheVariants.{Text};
 ghost use Rattle.grammar.specs.Grammar.{Bytes};
 ghost use Rattle.grammar.specs.Offsets.{least};
 ghost use Rattle.grammar.specs.Walk.{language_at};
-ghost use Rattle.location.specs.Answers.{seen, laid_over};
+ghost use Rattle.location.specs.Answers.{seen};
 ghost use Rattle.reader.specs.Seen.{Stepped, Sighted, StandingAt, FoundAt, Within, told_row};
 
 use super::edge::Reader;
 use super::marks::{Frame, MOST_HOLDERS, Mark};
-use super::parts::{Part, open_part};
-use super::standings::{Component, Standing, keep, language_in};
+use super::parts::Part;
+use super::standings::{Component, keep, language_in};
 use fields::numbers;
 use grammar::layout_of;
 use location::Row;
@@ -26,18 +26,17 @@ pub(crate) struct Sight {
     pub(crate) next: Mark,
 }
 
-// What is found at a mark: a row, nothing yet but a mark further on with the same rows, or the end.
+// What is found at a mark that is not the end: a row, or nothing yet but a mark further on with the same rows.
 #[derive(Clone, Copy)]
 pub(crate) enum Step {
     Row(Sight),
     Pass(Mark),
-    End,
 }
 
 // The known component at a mark, as a row.
-fn enter(bytes: &[u8], mark: Mark, frame: Frame, component: Component) -> Step
+fn enter(bytes: &[u8], mark: Mark, frame: Frame, component: Component) -> Option<Sight>
     requires { StandingAt bytes.now mark frame component }
-    ensures { Stepped bytes.now mark result }
+    ensures { Sighted bytes.now mark result }
 {
     let Component {
         kind,
@@ -45,24 +44,16 @@ fn enter(bytes: &[u8], mark: Mark, frame: Frame, component: Component) -> Step
         inside,
         stop,
     } = component;
-    let depth = mark.held - 1;
     let spot = layout_of(kind).inside;
-    if spot.is_closed() {
-        let next = mark.moved(stop);
-        return Step::Row(Sight {
-            depth,
-            kind,
-            from,
-            stop,
-            next,
-        });
-    }
-    if usize::from(mark.held) >= MOST_HOLDERS {
-        return Step::End;
-    }
-    let next = mark.push(Frame { end: stop, spot }, inside);
-    Step::Row(Sight {
-        depth,
+    let next = if spot.is_closed() {
+        mark.moved(stop)
+    } else if usize::from(mark.held) < MOST_HOLDERS {
+        mark.push(Frame { end: stop, spot }, inside)
+    } else {
+        return None;
+    };
+    Some(Sight {
+        depth: mark.held - 1,
         kind,
         from,
         stop,
@@ -71,41 +62,35 @@ fn enter(bytes: &[u8], mark: Mark, frame: Frame, component: Component) -> Step
 }
 
 // The known component `part`, at whose data the reader stands, as a row.
-fn look(bytes: &[u8], mark: Mark, frame: Frame, reader: &Reader, part: Part) -> Step
-    requires found { FoundAt bytes.now mark frame reader.now part }
-    ensures { Stepped bytes.now mark result }
+fn look(mark: Mark, frame: Frame, reader: &Reader<'_>, part: Part) -> Option<Sight>
+    requires found { FoundAt mark frame reader.now part }
+    ensures { Sighted reader.now.bytes.now mark result }
 {
-    match keep(bytes, reader, part) {
-        Standing::Known(component) => enter(bytes, mark, frame, component),
-        Standing::Unknown(stop) => Step::Pass(mark.moved(stop)),
-        Standing::Unread => Step::End,
-    }
+    enter(reader.bytes, mark, frame, keep(reader, part)?)
 }
 
 // What is found at a mark.
-fn take_step(bytes: &[u8], mark: Mark) -> Step
+fn take_step(bytes: &[u8], mark: Mark) -> Option<Step>
     ensures { Stepped bytes.now mark result }
 {
     if mark.held == 0 {
-        return Step::End;
+        return None;
     }
     let frame = mark.top();
     if frame.end > bytes.len() {
-        return Step::End;
+        return None;
     }
     if frame.end <= mark.at {
-        return Step::Pass(mark.popped());
+        return Some(Step::Pass(mark.popped()));
     }
     let mut reader = Reader {
+        bytes,
         at: mark.at,
         end: frame.end,
     };
-    let Ok(found) = open_part(bytes, &mut reader, frame.spot, 0) else {
-        return Step::End;
-    };
-    match found {
-        Some(part) => look(bytes, mark, frame, &reader, part),
-        None => Step::Pass(mark.moved(reader.at)),
+    match reader.open_part(frame.spot, 0).ok()? {
+        Some(part) => look(mark, frame, &reader, part).map(Step::Row),
+        None => Some(Step::Pass(mark.moved(reader.at))),
     }
 }
 
@@ -115,10 +100,9 @@ pub(crate) fn find(bytes: &[u8], mark: Mark) -> Option<Sight>
 {
     let mut at = mark;
     loop {
-        match take_step(bytes, at) {
+        match take_step(bytes, at)? {
             Step::Row(sight) => return Some(sight),
             Step::Pass(next) => at = next,
-            Step::End => return None,
         }
     }
 }
@@ -133,69 +117,54 @@ fn language_of(bytes: &[u8], from: usize, stop: usize) -> u8
     language_in(bytes, parts, stop).unwrap_or(bytes[0])
 }
 
-// The row that was found.
-pub(crate) fn row_of(bytes: &[u8], sight: &Sight) -> Row
-    requires { Within bytes.now sight.now }
-    ensures { result ≡ seen (told_row bytes.now sight.now) }
-{
-    let layout = layout_of(sight.kind);
-    if layout.is_text() {
-        let language = language_of(bytes, sight.from, sight.stop);
-        return Row {
-            depth: sight.depth,
-            kind: sight.kind,
-            a: 0,
-            b: 0,
-            language,
-            length: bytes[sight.from],
-        };
+impl Sight {
+    // The row that was found.
+    pub(crate) fn row(&self, bytes: &[u8]) -> Row
+        requires { Within bytes.now self.now }
+        ensures { result ≡ seen (told_row bytes.now self.now) }
+    {
+        let layout = layout_of(self.kind);
+        if layout.is_text() {
+            let language = language_of(bytes, self.from, self.stop);
+            return Row {
+                depth: self.depth,
+                kind: self.kind,
+                a: 0,
+                b: 0,
+                language,
+                length: bytes[self.from],
+            };
+        }
+        let (a, b) = numbers(layout.fields, bytes, self.from).unwrap_or((0, 0));
+        Row {
+            depth: self.depth,
+            kind: self.kind,
+            a,
+            b,
+            language: 0,
+            length: 0,
+        }
     }
-    let (a, b) = numbers(layout.fields, bytes, sight.from).unwrap_or((0, 0));
-    Row {
-        depth: sight.depth,
-        kind: sight.kind,
-        a,
-        b,
-        language: 0,
-        length: 0,
-    }
-}
 
-// Byte i of its text.
-pub(crate) fn byte_of(bytes: &[u8], sight: &Sight, i: usize) -> Option<u8>
-    requires { Within bytes.now sight.now }
-    ensures { result ≡ slice_get (told_row bytes.now sight.now).text i }
-{
-    if layout_of(sight.kind).is_text() && i < usize::from(bytes[sight.from]) {
-        Some(bytes[sight.from + 1 + i])
-    } else {
-        None
+    // Its text.
+    pub(crate) fn text<'a>(&self, bytes: &'a [u8]) -> &'a [u8]
+        requires { Within bytes.now self.now }
+        ensures text { result.now ≡ (told_row bytes.now self.now).text }
+        ensures bytes { Bytes result.now }
+    {
+        if !layout_of(self.kind).is_text() {
+            return &bytes[..0];
+        }
+        let from = self.from + 1;
+        let length = usize::from(bytes[self.from]);
+        &bytes[from..from + length]
     }
-}
 
-// Its text.
-pub(crate) fn text_of<'a>(bytes: &'a [u8], sight: &Sight) -> &'a [u8]
-    requires { Within bytes.now sight.now }
-    ensures text { result.now ≡ (told_row bytes.now sight.now).text }
-    ensures bytes { Bytes result.now }
-{
-    if !layout_of(sight.kind).is_text() {
-        return &bytes[..0];
+    // Byte i of it.
+    pub(crate) fn byte(&self, bytes: &[u8], i: usize) -> Option<u8>
+        requires { Within bytes.now self.now }
+        ensures { result ≡ slice_get (told_row bytes.now self.now).text i }
+    {
+        self.text(bytes).get(i).copied()
     }
-    let from = sight.from + 1;
-    let length = usize::from(bytes[sight.from]);
-    &bytes[from..from + length]
-}
-
-// Copies a text to the front of `out` at once, if it fits.
-pub(crate) fn copy_to(text: &[u8], out: &mut [u8]) -> bool
-    ensures fits { result ≡ nat_le (long text.now) (long out.old) }
-    ensures wrote { out.new ≡ (if result then laid_over text.now out.old else out.old) }
-{
-    let length = text.len();
-    if length > out.len() {
-        return false;
-    }
-    out[..length].copy_from_slice(text);
-    true
 }

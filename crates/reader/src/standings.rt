@@ -4,7 +4,7 @@ ghost use Rattle.grammar.specs.Walk.{data_from};
 ghost use Rattle.reader.specs.Stands.{known_at, stands_at, language_in};
 
 use super::edge::Reader;
-use super::parts::{Part, fields_size, header, open_part, read_language};
+use super::parts::Part;
 use fields::numbers;
 use grammar::{DESCRIPTIONS, Spot, TOP_WIDTH, layout_of};
 
@@ -23,52 +23,43 @@ pub enum Standing {
     Known(Component),
     // an unknown component, which ends there
     Unknown(usize),
-    // the holder's end, or what cannot be read
-    Unread,
 }
 
-// The component that was opened, at whose data the reader stands.
-pub(crate) fn keep(bytes: &[u8], reader: &Reader, part: Part) -> Standing
+// The component that was opened, at whose data the reader stands, if its fixed fields keep to it.
+pub(crate) fn keep(reader: &Reader<'_>, part: Part) -> Option<Component>
     requires order { reader.now.at ≤ part.stop }
-    requires within { part.stop ≤ length bytes.now }
-    ensures { result ≡ known_at bytes.now part.kind reader.now.at part.stop }
+    requires within { part.stop ≤ length reader.now.bytes.now }
+    ensures { result ≡ known_at reader.now.bytes.now part.kind reader.now.at part.stop }
 {
-    let from = reader.at;
     let inner = Reader {
-        at: from,
+        bytes: reader.bytes,
+        at: reader.at,
         end: part.stop,
     };
-    let Some(size) = fields_size(bytes, &inner, part.kind) else {
-        return Standing::Unread;
-    };
-    if numbers(layout_of(part.kind).fields, bytes, from).is_none() {
-        return Standing::Unread;
-    }
-    Standing::Known(Component {
+    let size = inner.fields_size(part.kind)?;
+    numbers(layout_of(part.kind).fields, inner.bytes, inner.at)?;
+    Some(Component {
         kind: part.kind,
-        from,
-        inside: from + size,
+        from: inner.at,
+        inside: inner.at + size,
         stop: part.stop,
     })
 }
 
-// What stands at a place inside a holder whose data end at `end`.
-pub fn look_at(bytes: &[u8], spot: Spot, at: usize, end: usize) -> Standing
+// What stands at a place inside a holder whose data end at `end`: nothing at that end, nor where it cannot be read.
+pub fn look_at(bytes: &[u8], spot: Spot, at: usize, end: usize) -> Option<Standing>
     ensures { result ≡ stands_at bytes.now spot at end }
 {
     if end > bytes.len() {
-        return Standing::Unread;
+        return None;
     }
     if end <= at {
-        return Standing::Unread;
+        return None;
     }
-    let mut reader = Reader { at, end };
-    let Ok(found) = open_part(bytes, &mut reader, spot, 0) else {
-        return Standing::Unread;
-    };
-    match found {
-        Some(part) => keep(bytes, &reader, part),
-        None => Standing::Unknown(reader.at),
+    let mut reader = Reader { bytes, at, end };
+    match reader.open_part(spot, 0).ok()? {
+        Some(part) => Some(Standing::Known(keep(&reader, part)?)),
+        None => Some(Standing::Unknown(reader.at)),
     }
 }
 
@@ -83,13 +74,15 @@ pub fn language_in(bytes: &[u8], from: usize, stop: usize) -> Option<u8>
         return None;
     }
     let mut reader = Reader {
+        bytes,
         at: from,
         end: stop,
     };
-    read_language(bytes, &mut reader, 0).unwrap_or(None)
+    reader.read_language(0).ok()?
 }
 
-// Where the data of the descriptions start and end; both 0 where there are none.
+// Where the data of the descriptions start and end.
+// Both 0 where there are none, and no `None`: that is a stretch too, in which no row stands, so that a location needs no other case.
 pub fn find_descriptions(bytes: &[u8]) -> (usize, usize)
     ensures start { result.0 ≡ (data_from bytes.now 1).start }
     ensures end { result.1 ≡ (data_from bytes.now 1).end }
@@ -98,12 +91,13 @@ pub fn find_descriptions(bytes: &[u8]) -> (usize, usize)
         return (0, 0);
     }
     let mut reader = Reader {
+        bytes,
         at: 1,
         end: bytes.len(),
     };
     while reader.at < reader.end {
         let place = reader.at;
-        let Ok(stop) = header(bytes, &mut reader, TOP_WIDTH, 0) else {
+        let Ok(stop) = reader.header(TOP_WIDTH, 0) else {
             return (0, 0);
         };
         if bytes[place] == DESCRIPTIONS {

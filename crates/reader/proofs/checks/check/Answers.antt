@@ -1,4 +1,5 @@
-use Rattle.std.proofs.Common.{ℕ, ◌≤◌, IfOk, Ok, Err, sym, ◌∙◌, arith}
+use Rattle.std.proofs.Common.{ℕ, ◌≤◌, length, IfOk, Ok, Err, sym, ◌∙◌, arith}
+use borrow.Author.Tests.{eqb-false}
 use Rattle.grammar.specs.Reading.{Read}
 use Rattle.grammar.proofs.Steps.{reading_tops}
 use Rattle.grammar.proofs.Exact.{told_exactly}
@@ -10,6 +11,7 @@ fewer (Err f) a b h k = tt
 
 pub returns : goal.returns
 returns c =
+    let some = eqb-false (length c.args.bytes.now) 0 (sym c.if-is_empty.ensures) in
     let v = c.check_tops.ensures.value ∙ sym (reading_tops c.args.bytes.now (omega arith) (omega arith)) in
     record {
       value = v;

@@ -1,19 +1,23 @@
-use Rattle.std.proofs.Common.{◌≡◌, ℕ, ◌+◌, ◌-◌, ◌*◌, ◌^◌, ◌<◌, get_or, ap, ◌∙◌, arith, rules}
+use Rattle.std.proofs.Common.{◌≡◌, ℕ, ◌+◌, ◌-◌, ◌*◌, ◌^◌, ◌<◌, get_or, drop, ap, ◌∙◌, arith, get_or-take, get_or-drop}
 use Rattle.grammar.specs.Offsets.{value}
 use Rattle.reader.proofs.Digits.{digit_more, few, wider}
 use Rattle.reader.proofs.parts.number_at.Goals as goal
 
 pub overflow_mul-n : goal.overflow_mul-n
-overflow_mul-n c = omega (arith, few c.loop-i.i c.loop-i.n (omega arith) c.loop-i.invariant.0)
+overflow_mul-n c = omega (arith, few c.loop-b.b-index c.loop-b.n (omega arith) c.loop-b.invariant.0)
 
 pub overflow_add-n : goal.overflow_add-n
-overflow_add-n c = omega (arith, few c.loop-i.i c.loop-i.n (omega arith) c.loop-i.invariant.0)
+overflow_add-n c = omega (arith, few c.loop-b.b-index c.loop-b.n (omega arith) c.loop-b.invariant.0)
 
-pub loop-i-preserved : goal.loop-i-preserved
-loop-i-preserved c =
-    let b : c.from.result ≡ get_or c.args.bytes.now (c.args.at + c.loop-i.i) 0 = search rules in
+pub loop-b-preserved : goal.loop-b-preserved
+loop-b-preserved c =
+    let bs = c.args.bytes.now in
+    let i = c.loop-b.b-index in
+    let h : i < c.args.width = omega arith in
+    let b : c.from.result ≡ get_or bs (c.args.at + i) 0 =
+    c.from.ensures ∙ get_or-take (c.args.at + c.args.width - c.args.at) (drop c.args.at bs) i 0 (omega arith) ∙ get_or-drop c.args.at bs i 0 in
     let k : c.from.result < 256 = omega arith in (
-      wider c.loop-i.i c.loop-i.n c.from.result c.loop-i.invariant.0 k,
-      ap (λ (x : ℕ). (c.loop-i.n * 256 + x) * 256 ^ (c.args.width - (c.loop-i.i + 1)) + value c.args.bytes.now (c.args.at + (c.loop-i.i + 1)) (c.args.width - (c.loop-i.i + 1))) b
-          ∙ digit_more c.args.bytes.now c.args.at c.args.width c.loop-i.i c.loop-i.n _ (omega arith) c.loop-i.invariant.1,
+      wider i c.loop-b.n c.from.result c.loop-b.invariant.0 k,
+      ap (λ (x : ℕ). (c.loop-b.n * 256 + x) * 256 ^ (c.args.width - (i + 1)) + value bs (c.args.at + (i + 1)) (c.args.width - (i + 1))) b
+          ∙ digit_more bs c.args.at c.args.width i c.loop-b.n _ h c.loop-b.invariant.1,
     )

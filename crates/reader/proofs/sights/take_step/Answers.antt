@@ -1,6 +1,7 @@
-use Rattle.std.proofs.Common.{◌<◌, ◌≤◌, length, sym, ap, ◌∙◌, subst, arith}
+use Rattle.std.proofs.Common.{◌<◌, ◌≤◌, length, Some, sym, ap, ◌∙◌, subst, arith}
 use Rattle.reader.specs.declared.marks.Mark.{Mark}
 use Rattle.reader.specs.Marks.{rows_at, left}
+use Rattle.reader.proofs.Stood.{ok_none, ok_some}
 use Rattle.reader.proofs.Sighted.{mark_out, mark_forged, mark_done, mark_past, mark_unknown}
 use Rattle.reader.proofs.sights.take_step.Goals as goal
 
@@ -17,15 +18,18 @@ returns-then-frame-mark c = (
   subst (λ (m : Mark). left c.args.bytes.now m < left c.args.bytes.now c.args.mark) (sym c.popped.ensures) (omega arith),
 )
 
+pub returns-in_err-part : goal.returns-in_err-part
+returns-in_err-part c =
+    let r = ok_none c.open_part.result (sym c.ok.ensures.value ∙ c.in_err-part.was) in
+    let f = rw r.1 at c.open_part.ensures.found in
+    rw c.from_residual.ensures (mark_past c.args.bytes.now c.args.mark c.top-frame.result (omega arith) c.top-frame.ensures (omega arith) (omega arith) _ f)
+
 pub returns-in-None : goal.returns-in-None
 returns-in-None c =
-    let f = rw c.in-None.is at c.in-Ok.ensures.found in
-    let l : c.open_part.new.reader.at ≤ length c.args.bytes.now = omega (arith, f.3) in (
+    let r = ok_some c.open_part.result _ (sym c.ok.ensures.value ∙ c.in_ok-part.was ∙ ap Some c.in-None.is) in
+    let f = rw r at c.open_part.ensures.found in
+    let l : c.open_part.new.self.at ≤ length c.args.bytes.now = omega (arith, f.3) in (
       ap (rows_at c.args.bytes.now) c.moved.ensures
           ∙ mark_unknown c.args.bytes.now c.args.mark c.top-frame.result (omega arith) c.top-frame.ensures (omega arith) (omega arith) _ f.0 f.1,
       subst (λ (m : Mark). left c.args.bytes.now m < left c.args.bytes.now c.args.mark) (sym c.moved.ensures) (omega (arith, f.2)),
     )
-
-pub returns-in_default : goal.returns-in_default
-returns-in_default c =
-    mark_past c.args.bytes.now c.args.mark c.top-frame.result (omega arith) c.top-frame.ensures (omega arith) (omega arith) _ c.in_default.ensures.found

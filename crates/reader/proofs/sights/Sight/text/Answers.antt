@@ -5,12 +5,12 @@ use Rattle.grammar.specs.Reading.{is_text}
 use Rattle.grammar.proofs.Exact.{bytes_each}
 use Rattle.grammar.proofs.Numbers.{bytes_take, bytes_drop}
 use Rattle.reader.proofs.Sighted.{text_told}
-use Rattle.reader.proofs.sights.text_of.Goals as goal
+use Rattle.reader.proofs.sights.Sight.text.Goals as goal
 
 pub returns : goal.returns
 returns c =
     let bs = c.args.bytes.now in
-    let s = c.args.sight.now in
+    let s = c.args.self.now in
     let t = ap (λ (x : Layout). is_text x.fields) (sym c.layout_of.ensures) ∙ sym c.is_text.ensures ∙ c.if-not-is_text.false in
     let n : s.from + 1 + c.from-length.result - (s.from + 1) ≡ get_or bs s.from 0 = omega arith in
     let i : s.from + 1 ≡ suc s.from = omega arith in
