@@ -1,6 +1,6 @@
 -- What is sent, by what a look over the rows found and the default that was chosen from it.
 -- Assumes nothing.
-use Rattle.std.proofs.Common.{◌≡◌, ℕ, suc, ◌+◌, ◌-◌, ◌*◌, ◌<◌, ◌≤◌, Bool, true, false, cond, ◌⊎◌, [], ◌∷◌, length, get_or, Some, None, sym, refl, ap, ◌∙◌, subst, arith, length-append}
+use Rattle.std.proofs.Common.{◌≡◌, ℕ, suc, ◌+◌, ◌-◌, ◌*◌, ◌<◌, ◌≤◌, Bool, true, false, cond, ◌⊎◌, [], ◌∷◌, length, get_or, ltb, lt-ltb, Some, None, Option, sym, refl, ap, ◌∙◌, subst, arith, length-append}
 use Rattle.grammar.specs.Format.{layout, width, fixed_bytes, big}
 use Rattle.grammar.specs.Grammar.{Rows, default_of}
 use Rattle.grammar.specs.Reading.{if, is_text}
@@ -10,9 +10,8 @@ use Rattle.grammar.specs.Admits.{top_level}
 use Rattle.grammar.specs.Choice.{suits, base_size, texts as texts_of, length_under}
 use Rattle.grammar.proofs.Choosing.{texts_in_le, rows_fit}
 use Rattle.grammar.proofs.Sent.{flat_long, sent_under, none_under}
-use Rattle.location.specs.Answers.{any_row}
 use Rattle.sender.specs.declared.survey.Survey.{Survey}
-use Rattle.sender.specs.Surveyed.{Surveyed, Bounded, length_for, Chosen}
+use Rattle.sender.specs.Surveyed.{Surveyed, Bounded, length_for, Chosen, Settled}
 use Rattle.sender.specs.Writable.{Writable}
 use Rattle.sender.proofs.Writes.{writable}
 
@@ -27,9 +26,9 @@ texts_small (r ∷ rs) = let h = texts_small rs in go (is_text (layout r.kind).f
     go true h = omega arith
     go false h = omega arith
 
-framed : (rows : Rows) → cond (any_row rows) 4 1 ≡ frame rows
+framed : (rows : Rows) → cond (ltb 0 (base_size rows)) 4 1 ≡ frame rows
 framed [] = refl
-framed (r ∷ rs) = refl
+framed (r ∷ rs) = let l = lt-ltb 0 (base_size (r ∷ rs)) (omega arith) in ap (λ (b : Bool). cond b 4 1) l
 
 pub default_is : (d : ℕ) (rows : Rows) → d ≡ default_of (flat_container d rows)
 default_is d [] = refl
@@ -56,7 +55,7 @@ module _ (rows : Rows) (s : Survey) (f : Surveyed rows s) where
 
   long_is : (d : ℕ) → d < 256 → length_for s d ≡ length_under d rows
   long_is d h =
-      let some : cond s.some 4 1 ≡ frame rows = ap (λ (b : Bool). cond b 4 1) f.some ∙ framed rows in
+      let some : cond (ltb 0 s.sums.base) 4 1 ≡ frame rows = ap (λ (n : ℕ). cond (ltb 0 n) 4 1) f.base ∙ framed rows in
       λ i. (some i + f.base i) + 3 * (f.texts i - f.tally d h i)
 
   -- no default serves
@@ -84,3 +83,8 @@ module _ (rows : Rows) (s : Survey) (f : Surveyed rows s) where
         let i = inner_small d rows in
         let m = c.3 in
         writable d top_level rows f.tree (rows_fit d rows f.bytes f.fit suited) (omega arith)
+
+-- what was chosen is what is sent
+pub settled : (rows : Rows) (s : Survey) → Surveyed rows s → (o : Option (ℕ × ℕ)) → Chosen s o → Settled rows o
+settled rows s f None c = none_chosen rows s f c
+settled rows s f (Some (n, d)) c = (chosen_sent rows s f n d c, chosen_long rows s f n d c, c.3, chosen_writable rows s f n d c)

@@ -1,6 +1,8 @@
 -- What is promised of sending, from what was sent.
 -- Assumes nothing.
-use Rattle.std.proofs.Common.{◌≡◌, ℕ, ◌<◌, ◌≤◌, List, ◌++◌, length, take, drop, Some, None, Ok, Err, Option, sym, refl, ap, ◌∙◌, subst, arith, take_at, drop_at, le-ltb, lt-ltb}
+use Rattle.std.proofs.Common.{◌≡◌, ℕ, ◌<◌, ◌≤◌, List, ◌++◌, length, take, drop, Some, None, Ok, Err, Option, Result, sym, refl, ap, ◌∙◌, subst, arith, take_at, drop_at, le-ltb, lt-ltb}
+use Rattle.std.specs.Option.{ok_or}
+use Rattle.grammar.specs.declared.fault.SendFault.{SendFault}
 use Rattle.grammar.specs.declared.fault.SendFault.TheVariants.{NoContainer, NoRoom}
 use Rattle.grammar.specs.Grammar.{Rows, Best, default_of}
 use Rattle.grammar.specs.Sending.{sending, into}
@@ -43,3 +45,13 @@ module _ (rows : Rows) (before bytes : List ℕ) (q : sending rows ≡ Some byte
 
     pub sent_best : SentBest rows before (Ok (n, d)) after
     sent_best = (subst (Best rows) (sym front) (sends.0 rows bytes q), h)
+
+-- a refusal says that there was nothing
+pub nothing_there : (o : Option (ℕ × ℕ)) (r : Result (ℕ × ℕ) SendFault) (f : SendFault)
+    → r ≡ ok_or o NoContainer → r ≡ Err f → (o ≡ None) × (f ≡ NoContainer)
+nothing_there None r f a b = (refl, cc)
+nothing_there (Some x) r f a b = let z : ◌≡◌ {A = ℕ} 0 1 = cc in absurd (omega arith)
+
+pub something_there : (o : Option (ℕ × ℕ)) (r : Result (ℕ × ℕ) SendFault) (x : ℕ × ℕ) → r ≡ ok_or o NoContainer → r ≡ Ok x → o ≡ Some x
+something_there None r x a b = let z : ◌≡◌ {A = ℕ} 0 1 = cc in absurd (omega arith)
+something_there (Some y) r x a b = cc

@@ -1,4 +1,5 @@
 pub mod Spliced
+pub mod Penned
 pub mod Laid
 pub mod Looked
 pub mod Headed
@@ -7,4 +8,3 @@ pub mod Underway
 pub mod Turned
 pub mod Decided
 pub mod Judged
-pub mod Framed

@@ -1,19 +1,10 @@
 -- Bytes written one after the other.
 -- Assumes nothing.
-use Rattle.std.proofs.Common.{◌≡◌, ℕ, zero, suc, ◌+◌, ◌<◌, ◌≤◌, ◌&&◌, T, leb, List, [], ◌∷◌, ◌++◌, length, take, drop, set, sym, refl, ap, ◌∙◌, ap₂, append_assoc, arith, leb→le, length-append, length-drop, length-take-le, drop-drop, take_at, drop_at}
+use Rattle.std.proofs.Common.{◌≡◌, ℕ, ◌+◌, ◌≤◌, ◌&&◌, T, leb, List, [], ◌++◌, length, take, drop, sym, ap, ◌∙◌, ap₂, append_assoc, arith, leb→le, length-append, length-take-le, drop-drop, take_at, drop_at}
 use Rattle.grammar.specs.declared.table.Layout.{Layout}
-use Rattle.grammar.specs.Format.{layout, table, blank, big}
+use Rattle.grammar.specs.Format.{layout, table, blank}
 use Rattle.grammar.proofs.Lines.{line_at, both_left, both_right}
-use Rattle.grammar.proofs.Numbers.{length_big}
 use Rattle.sender.specs.Splice.{splice}
-
-pub length_splice : (xs : List ℕ) (at : ℕ) (bs : List ℕ) → at + length bs ≤ length xs → length (splice xs at bs) ≡ length xs
-length_splice xs at bs h =
-    let a = length-append (take at xs) (bs ++ drop (at + length bs) xs) in
-    let b = length-append bs (drop (at + length bs) xs) in
-    let c = length-take-le at xs (omega arith) in
-    let d = length-drop (at + length bs) xs in
-    omega arith
 
 -- nothing written changes nothing
 pub splice_none : (xs : List ℕ) (at : ℕ) → splice xs at [] ≡ xs
@@ -43,20 +34,9 @@ module _ (xs : List ℕ) (at : ℕ) (us bs : List ℕ) (h : at + length us + len
       ∙ ap (λ (r : List ℕ). take at xs ++ r) (sym (append_assoc us bs (drop (at + length us + length bs) xs)))
       ∙ ap (λ (n : ℕ). take at xs ++ ((us ++ bs) ++ drop n xs)) (sym l)
 
--- one byte
-pub splice_set : (xs : List ℕ) (at b : ℕ) → at < length xs → set xs at b ≡ splice xs at (b ∷ [])
-splice_set [] at b h = absurd (omega arith)
-splice_set (x ∷ xs) zero b h = refl
-splice_set (x ∷ xs) (suc at) b h =
-    let e : suc at + 1 ≡ suc (at + 1) = omega arith in
-    rw e (ap (λ (r : List ℕ). x ∷ r) (splice_set xs at b (omega arith)))
-
 -- the widths of the table
 pub width_few : (k : ℕ) → (1 ≤ (layout k).width) × ((layout k).width ≤ 2)
 width_few k = go (line_at (λ (l : Layout). leb 1 l.width && leb l.width 2) blank tt table tt k)
   where
     go : T (leb 1 (layout k).width && leb (layout k).width 2) → (1 ≤ (layout k).width) × ((layout k).width ≤ 2)
     go t = (leb→le 1 (layout k).width (both_left (leb 1 (layout k).width) _ t), leb→le (layout k).width 2 (both_right (leb 1 (layout k).width) _ t))
-
-pub length_big_is : (w n : ℕ) → length (big w n) ≡ w
-length_big_is = length_big

@@ -1,8 +1,11 @@
 -- A look over the rows of a location, underway: what is kept from row to row, and what follows at the end or where it is given up.
 -- Assumes nothing.
-use Rattle.std.proofs.Common.{◌≡◌, ℕ, zero, suc, ◌+◌, ◌-◌, ◌*◌, ◌<◌, ◌≤◌, Bool, true, false, not, ◌&&◌, ◌||◌, eqb, ltb, leb, ◌≢◌, List, [], ◌∷◌, length, get_or, drop, set, replicate, Some, None, Option, sym, refl, ap, ◌∙◌, subst, inl, inr, arith, length-set, get_or-set_other, get_or-set_same}
+use Rattle.std.proofs.Common.{◌≡◌, ℕ, zero, suc, ◌+◌, ◌-◌, ◌*◌, ◌<◌, ◌≤◌, Bool, true, false, not, ◌&&◌, ◌||◌, eqb, ltb, leb, List, [], ◌∷◌, length, ◌++◌, get_or, drop, take, replicate, Some, None, Option, sym, refl, ap, ◌∙◌, subst, inl, inr, arith, length-append, length-take-le}
 use native.Mathlib.Decide.{dec_lt}
 use lib.ListN.{get_or-replicate, length-replicate}
+use Rattle.std.proofs.Math.ListN.{get_or-append}
+use Rattle.std.proofs.Math.Seq.{get_or-append_seam}
+use Rattle.std.proofs.lemmas.List.{get_or-take}
 use Rattle.std.proofs.lemmas.Bool.{and_parts, and_cases, and_left, and_right, ltb-true, leb-true, eqb-true, lt-ltb, ne_eqb, cases_lt}
 use Rattle.grammar.specs.declared.table.Spot.TheVariants.{Descriptions}
 use Rattle.grammar.specs.declared.table.Layout.{Layout}
@@ -15,20 +18,21 @@ use Rattle.grammar.specs.Admits.{Level, plain_row, row_stands, within, level_roo
 use Rattle.grammar.specs.Choice.{over, tight, any_over, suits, bare_size, base_size, texts as texts_of, ByteRows}
 use Rattle.grammar.proofs.Admitted.{admits_stands, levels_few}
 use Rattle.grammar.proofs.Choosing.{texts_in_le, full_is, rows_fit_not}
-use Rattle.location.specs.Answers.{seen, any_row}
+use Rattle.location.specs.Answers.{seen}
 use Rattle.sender.specs.declared.survey.Open.{Open}
 use Rattle.sender.specs.declared.survey.Sums.{Sums}
 use Rattle.sender.specs.Tested.{plain_by, stands_in, shut, blank_open, level, open_levels, Roomy, Opened}
-use Rattle.sender.specs.Surveyed.{must_be, Added, Surveyed}
+use Rattle.sender.specs.Surveyed.{must_be, Added}
+use Rattle.sender.specs.Heads.{own_long}
+use Rattle.sender.proofs.Looked.{own_bare}
 
 clash : {X : Type 0} → true ≡ false → X
 clash e = let z : ◌≡◌ {A = ℕ} 0 1 = cc in absurd (omega arith)
 
 -- What is kept: the levels that are open, the sums and the tally so far, for the rows that are left of all.
-pub record Underway (os : List Open) (deep : ℕ) (s : Sums) (ts : List ℕ) (rest all : Rows) : Type 0 where
-  pub seventeen : length os ≡ 17
-  pub roomy : Roomy os deep
-  pub tree : admits top_level all ≡ admits (open_levels os deep) rest
+pub record Underway (os : List Open) (s : Sums) (ts : List ℕ) (rest all : Rows) : Type 0 where
+  pub roomy : Roomy os
+  pub tree : admits top_level all ≡ admits (open_levels os (length os)) rest
   pub fit : any_over all ≡ any_over rest
   pub bytes : ByteRows rest → ByteRows all
   pub suit : (d : ℕ) → suits d all ≡ (must_be s.must d && suits d rest)
@@ -41,22 +45,19 @@ pub record Underway (os : List Open) (deep : ℕ) (s : Sums) (ts : List ℕ) (re
   pub few : s.base ≤ 65531
 
 -- At the start only the descriptions are open.
-abbrev top_open : Open
+abbrev pub top_open : Open
 top_open = record { spot = Descriptions; nodes = 0 }
 
 abbrev first_sums : Sums
 first_sums = record { base = 0; texts = 0; must = None }
 
-start_all : (all : Rows) → Underway (replicate 17 top_open) 1 first_sums (replicate 256 0) all all
+start_all : (all : Rows) → Underway (top_open ∷ []) first_sums (replicate 256 0) all all
 start_all all =
     record {
-      seventeen = refl;
       roomy =
           record {
-            room = λ j h. let e : get_or (replicate 17 top_open) j blank_open ≡ top_open = get_or-replicate 17 j top_open blank_open (omega arith) in
-                rw e (omega arith);
-            eight = λ j h. let e : get_or (replicate 17 top_open) j blank_open ≡ top_open = get_or-replicate 17 j top_open blank_open (omega arith) in
-                rw e (omega arith);
+            room = λ j h. let z : j ≡ 0 = omega arith in rw z (omega arith);
+            eight = λ j h. let z : j ≡ 0 = omega arith in rw z (omega arith);
           };
       tree = refl;
       fit = refl;
@@ -71,8 +72,10 @@ start_all all =
       few = omega arith;
     }
 
-pub start : (all rows : Rows) → rows ≡ all → Underway (replicate 17 top_open) 1 first_sums (replicate 256 0) rows all
-start all rows e = subst (λ (r : Rows). Underway (replicate 17 top_open) 1 first_sums (replicate 256 0) r all) (sym e) (start_all all)
+pub start : (all rows : Rows) (os : List Open) → rows ≡ all → os ≡ top_open ∷ [] → Underway os first_sums (replicate 256 0) rows all
+start all rows os e f =
+    subst (λ (o : List Open). Underway o first_sums (replicate 256 0) rows all) (sym f)
+    (subst (λ (r : Rows). Underway (top_open ∷ []) first_sums (replicate 256 0) r all) (sym e) (start_all all))
 
 -- The levels that are open at a depth.
 levels_length : (os : List Open) (n : ℕ) → length (open_levels os n) ≡ n
@@ -95,11 +98,10 @@ levels_drop os (suc n) d h =
 levels_at : (os : List Open) (n d : ℕ) → d < n → at_depth d (open_levels os n) ≡ open_levels os (suc d)
 levels_at os n d h = ap (λ (m : ℕ). drop (m - suc d) (open_levels os n)) (levels_length os n) ∙ levels_drop os n d h
 
-levels_below : (os : List Open) (v : Open) (n m : ℕ) → m ≤ n → open_levels (set os n v) m ≡ open_levels os m
-levels_below os v n zero h = refl
-levels_below os v n (suc m) h =
-    let ne : m ≢ n = omega arith in
-    (λ i. level (get_or-set_other os n m v blank_open ne i) ∷ levels_below os v n m (omega arith) i)
+levels_kept : (os after : List Open) (m : ℕ) → ((j : ℕ) → j < m → get_or after j blank_open ≡ get_or os j blank_open)
+    → open_levels after m ≡ open_levels os m
+levels_kept os after zero h = refl
+levels_kept os after (suc m) h = λ i. level (h m (omega arith) i) ∷ levels_kept os after m (λ j k. h j (omega arith)) i
 
 -- A row is tested by its text's length as by the text.
 empty_is : (t : List ℕ) → eqb (length t) 0 ≡ empty t
@@ -117,7 +119,7 @@ module _ (o : Open) (x : Told) (n : ℕ) where
       (λ _. fits (layout x.kind).fields x.a x.b && (eqb x.language 0 && e))
       && (leb (deeper (layout x.kind).inside o.nodes) 8 && enough))
 
-  stands_row : stands_in o (layout x.kind) (seen x) enough ≡ row_stands (level o) x n
+  stands_row : stands_in o (seen x) enough ≡ row_stands (level o) x n
   stands_row = ap stands_if (empty_is x.text)
 
 -- the rest of the test of a row, by the levels that are open at its depth
@@ -149,36 +151,14 @@ stands_least all d st =
     let f = full_is all in
     omega arith
 
-frame_most : (all : Rows) → frame all ≤ 4
-frame_most [] = omega arith
-frame_most (r ∷ rs) = omega arith
-
 frame_some : (all : Rows) → 0 < base_size all → frame all ≡ 4
 frame_some [] h = absurd (omega arith)
 frame_some (r ∷ rs) h = refl
 
--- At the end all is known.
-pub finish : (os : List Open) (deep : ℕ) (s : Sums) (ts : List ℕ) (all : Rows) (some : Bool) → some ≡ any_row all → Underway os deep s ts [] all
-    → Surveyed all (record { base = s.base; texts = s.texts; tally = ts; must = s.must; some = some })
-finish os deep s ts all some e u =
-    record {
-      tree = u.tree;
-      fit = u.fit;
-      bytes = u.bytes tt;
-      suit = λ d. u.suit d ∙ and_true (must_be s.must d);
-      base = omega (arith, u.base);
-      texts = omega (arith, u.texts);
-      long = u.long;
-      tally = λ k h. omega (arith, u.tally k h);
-      some = e;
-      few = omega (arith, u.base, u.few, frame_most all);
-    }
-  where
-    and_true : (b : Bool) → (b && true) ≡ b
-    and_true true = refl
-    and_true false = refl
+module _ (os : List Open) (s : Sums) (ts : List ℕ) (x : Told) (xs all : Rows) (u : Underway os s ts (x ∷ xs) all) where
+  abbrev deep : ℕ
+  deep = length os
 
-module _ (os : List Open) (deep : ℕ) (s : Sums) (ts : List ℕ) (x : Told) (xs all : Rows) (u : Underway os deep s ts (x ∷ xs) all) where
   abbrev held : ℕ
   held = held_count x.depth xs
 
@@ -190,7 +170,7 @@ module _ (os : List Open) (deep : ℕ) (s : Sums) (ts : List ℕ) (x : Told) (xs
   here = get_or os x.depth blank_open
 
   abbrev passes : Bool
-  passes = ltb x.depth deep && stands_in here lay (seen x) (enough here x held)
+  passes = ltb x.depth deep && stands_in here (seen x) (enough here x held)
 
   -- A row that may not stand where it does.
   pub stray : passes ≡ false → (d : ℕ) → d < 256 → stands all d ≡ false
@@ -199,13 +179,13 @@ module _ (os : List Open) (deep : ℕ) (s : Sums) (ts : List ℕ) (x : Told) (xs
     where
       not_here : (ltb x.depth deep && (row_stands (level here) x held && admits (opened (level here) (open_levels os x.depth) x) xs)) ≡ false
       not_here =
-          elim (and_cases (ltb x.depth deep) (stands_in here lay (seen x) (enough here x held)) h) [
+          elim (and_cases (ltb x.depth deep) (stands_in here (seen x) (enough here x held)) h) [
             | inl p ↦ and_left (ltb x.depth deep) _ p
             | inr p ↦ and_right (ltb x.depth deep) _ (and_left (row_stands (level here) x held) _ (sym (stands_row here x held) ∙ p))
           ]
 
   -- A row that no default can serve together with those before it.
-  pub unfit : Added s lay (seen x) None → (d : ℕ) → d < 256 → stands all d ≡ false
+  pub unfit : Added s (seen x) None → (d : ℕ) → d < 256 → stands all d ≡ false
   unfit (inl o) d k = stands_not all d (λ st. clash (sym (u.fit ∙ or_here (any_over xs) o) ∙ (rows_fit_not d all st.2).0))
     where
       or_here : (b : Bool) → over x ≡ true → (over x || b) ≡ true
@@ -220,7 +200,8 @@ module _ (os : List Open) (deep : ℕ) (s : Sums) (ts : List ℕ) (x : Told) (xs
       stands_not all d (λ st.
       let m = stands_least all d st in
       let b : s.base + (bare_size x + base_size xs) ≡ base_size all = u.base in
-      let n : 65531 < s.base + bare_size x = h in
+      let n : 65531 < s.base + own_long x.language (seen x) = h in
+      let o = own_bare x in
       let p : 0 < base_size all = omega arith in
       let f = frame_some all p in
       omega arith)
@@ -232,13 +213,10 @@ module _ (os : List Open) (deep : ℕ) (s : Sums) (ts : List ℕ) (x : Told) (xs
     row_ok : row_stands (level here) x held ≡ true
     row_ok = sym (stands_row here x held) ∙ (and_parts (ltb x.depth deep) _ pass).1
 
-    pub here_eight : here.nodes ≤ 8
-    here_eight = u.roomy.eight x.depth shallow
-
     roomy_here : length (open_levels os (suc x.depth)) ≤ level_room (level here)
     roomy_here = let e = levels_length os (suc x.depth) in let r = u.roomy.room x.depth shallow in omega arith
 
-    grown : shut lay ≡ false → (suc (suc x.depth) ≤ level_room (within (level here) x)) × (level_room (within (level here) x) ≤ 17)
+    grown : shut (seen x) ≡ false → (suc (suc x.depth) ≤ level_room (within (level here) x)) × (level_room (within (level here) x) ≤ 17)
     grown h =
         let g = levels_few (level here) (open_levels os x.depth) x held roomy_here row_ok h in
         let e = levels_length os x.depth in
@@ -246,8 +224,8 @@ module _ (os : List Open) (deep : ℕ) (s : Sums) (ts : List ℕ) (x : Told) (xs
         (omega arith, g.1)
 
     -- there is room for what the row opens
-    pub row_room : shut lay ≡ false → suc x.depth < length os
-    row_room h = let g = grown h in let a = g.0 in let b = g.1 in let e = u.seventeen in omega arith
+    pub row_room : shut (seen x) ≡ false → suc x.depth < 17
+    row_room h = let g = grown h in let a = g.0 in let b = g.1 in omega arith
 
     inner_eight : deeper lay.inside here.nodes ≤ 8
     inner_eight =
@@ -259,68 +237,77 @@ module _ (os : List Open) (deep : ℕ) (s : Sums) (ts : List ℕ) (x : Told) (xs
     inner = record { spot = lay.inside; nodes = deeper lay.inside here.nodes }
 
     -- The levels after the row.
-    record After (os' : List Open) (deep' : ℕ) : Type 0 where
-      pub seventeen : length os' ≡ 17
-      pub roomy : Roomy os' deep'
-      pub are : open_levels os' deep' ≡ opened (level here) (open_levels os x.depth) x
+    record After (after : List Open) : Type 0 where
+      pub roomy : Roomy after
+      pub are : open_levels after (length after) ≡ opened (level here) (open_levels os x.depth) x
 
     abbrev opened_if : Bool → List Level
     opened_if b =
         if b (λ _. level here ∷ open_levels os x.depth) (λ _. within (level here) x ∷ level here ∷ open_levels os x.depth)
 
-    after_shut : shut lay ≡ true → (os' : List Open) (deep' : ℕ) → deep' ≡ suc x.depth → os' ≡ os → After os' deep'
-    after_shut q os' deep' e f =
-        subst (λ (o : List Open). After o deep') (sym f) (subst (After os) (sym e)
-        (record {
-          seventeen = u.seventeen;
+    -- those around the row stay
+    abbrev around : List Open
+    around = take (suc x.depth) os
+
+    around_long : length around ≡ suc x.depth
+    around_long = length-take-le (suc x.depth) os shallow
+
+    around_same : (j : ℕ) → j < suc x.depth → get_or around j blank_open ≡ get_or os j blank_open
+    around_same j h = get_or-take (suc x.depth) os j blank_open h
+
+    around_room : (o : Open) (j : ℕ) → o ≡ get_or os j blank_open → j < suc x.depth → (suc j ≤ level_room (level o)) × (o.nodes ≤ 8)
+    around_room o j e h =
+        let l = shallow in
+        subst (λ (p : Open). (suc j ≤ level_room (level p)) × (p.nodes ≤ 8)) (sym e) (u.roomy.room j (omega arith), u.roomy.eight j (omega arith))
+
+    after_shut : shut (seen x) ≡ true → After around
+    after_shut q =
+        let n = around_long in
+        record {
           roomy = record {
-            room = λ j h. let l = shallow in u.roomy.room j (omega arith);
-            eight = λ j h. let l = shallow in u.roomy.eight j (omega arith);
+            room = λ j h. let k : j < suc x.depth = omega arith in (around_room (get_or around j blank_open) j (around_same j k) k).0;
+            eight = λ j h. let k : j < suc x.depth = omega arith in (around_room (get_or around j blank_open) j (around_same j k) k).1;
           };
-          are = ap opened_if (sym q);
-        }))
+          are = ap (open_levels around) n ∙ levels_kept os around (suc x.depth) around_same ∙ ap opened_if (sym q);
+        }
 
-    after_open : shut lay ≡ false → (os' : List Open) (deep' : ℕ) → deep' ≡ suc (suc x.depth) → os' ≡ set os (suc x.depth) inner → After os' deep'
-    after_open q os' deep' e f =
-        subst (λ (o : List Open). After o deep') (sym f) (subst (After (set os (suc x.depth) inner)) (sym e)
-        (record {
-          seventeen = length-set os (suc x.depth) inner ∙ u.seventeen;
-          roomy = record { room = rooms; eight = eights };
-          are = (λ i. level (same i) ∷ levels_below os inner (suc x.depth) (suc x.depth) (omega arith) i) ∙ ap opened_if (sym q);
-        }))
-      where
-        same : get_or (set os (suc x.depth) inner) (suc x.depth) blank_open ≡ inner
-        same = get_or-set_same os (suc x.depth) inner blank_open (row_room q)
+    module _ (q : shut (seen x) ≡ false) where
+      abbrev more : List Open
+      more = around ++ inner ∷ []
 
-        rooms : (j : ℕ) → j < suc (suc x.depth) → suc j ≤ level_room (level (get_or (set os (suc x.depth) inner) j blank_open))
-        rooms j h =
-            elim (cases_lt j (suc x.depth)) [
-              | inl k ↦
-                  let ne : j ≢ suc x.depth = omega arith in
-                  let l = shallow in
-                  subst (λ (o : Open). suc j ≤ level_room (level o)) (sym (get_or-set_other os (suc x.depth) j inner blank_open ne)) (u.roomy.room j (omega arith))
-              | inr k ↦
-                  let eq : suc x.depth ≡ j = omega arith in
-                  subst (λ (n : ℕ). suc n ≤ level_room (level (get_or (set os (suc x.depth) inner) n blank_open))) eq
-                  (subst (λ (o : Open). suc (suc x.depth) ≤ level_room (level o)) (sym same) (grown q).0)
-            ]
+      more_long : length more ≡ suc (suc x.depth)
+      more_long = omega (arith, length-append around (inner ∷ []), around_long)
 
-        eights : (j : ℕ) → j < suc (suc x.depth) → (get_or (set os (suc x.depth) inner) j blank_open).nodes ≤ 8
-        eights j h =
-            elim (cases_lt j (suc x.depth)) [
-              | inl k ↦
-                  let ne : j ≢ suc x.depth = omega arith in
-                  let l = shallow in
-                  subst (λ (o : Open). o.nodes ≤ 8) (sym (get_or-set_other os (suc x.depth) j inner blank_open ne)) (u.roomy.eight j (omega arith))
-              | inr k ↦
-                  let eq : suc x.depth ≡ j = omega arith in
-                  subst (λ (n : ℕ). (get_or (set os (suc x.depth) inner) n blank_open).nodes ≤ 8) eq
-                  (subst (λ (o : Open). o.nodes ≤ 8) (sym same) inner_eight)
-            ]
+      more_same : (j : ℕ) → j < suc x.depth → get_or more j blank_open ≡ get_or os j blank_open
+      more_same j h = get_or-append around (inner ∷ []) blank_open j (omega (arith, around_long)) ∙ around_same j h
 
-    after : (b : Bool) → shut lay ≡ b → (os' : List Open) (deep' : ℕ) → Opened b os x.depth lay os' deep' → After os' deep'
-    after true q os' deep' o = after_shut q os' deep' o.0 o.1
-    after false q os' deep' o = after_open q os' deep' o.0 o.1
+      same : get_or more (suc x.depth) blank_open ≡ inner
+      same = subst (λ (n : ℕ). get_or more n blank_open ≡ inner) around_long (get_or-append_seam around inner [] blank_open)
+
+      rooms : (j : ℕ) → j < length more → (suc j ≤ level_room (level (get_or more j blank_open))) × ((get_or more j blank_open).nodes ≤ 8)
+      rooms j h =
+          let n = more_long in
+          elim (cases_lt j (suc x.depth)) [
+            | inl k ↦ around_room (get_or more j blank_open) j (more_same j k) k
+            | inr k ↦
+                let eq : suc x.depth ≡ j = omega arith in
+                subst (λ (n : ℕ). (suc n ≤ level_room (level (get_or more n blank_open))) × ((get_or more n blank_open).nodes ≤ 8)) eq
+                (subst (λ (o : Open). (suc (suc x.depth) ≤ level_room (level o)) × (o.nodes ≤ 8)) (sym same) ((grown q).0, inner_eight))
+          ]
+
+      after_open : After more
+      after_open =
+          record {
+            roomy = record { room = λ j h. (rooms j h).0; eight = λ j h. (rooms j h).1 };
+            are =
+                ap (open_levels more) more_long
+                ∙ (λ i. level (same i) ∷ levels_kept os more (suc x.depth) more_same i)
+                ∙ ap opened_if (sym q);
+          }
+
+    after_row : (b : Bool) → shut (seen x) ≡ b → (after : List Open) → Opened b os (seen x) after → After after
+    after_row true q after o = subst After (sym o) (after_shut q)
+    after_row false q after o = subst After (sym o) (after_open q)
 
     -- a row that is no text has none
     no_text : is_text lay.fields ≡ false → x.text ≡ []
@@ -336,26 +323,25 @@ module _ (os : List Open) (deep : ℕ) (s : Sums) (ts : List ℕ) (x : Told) (xs
         plain : (eqb x.language 0 && eqb (length x.text) 0) ≡ true
         plain =
             let a = (and_parts (ltb 0 x.kind && eqb (kind_at here.spot lay.id) x.kind) _ plain_at).1 in
-            let b = (and_parts (plain_by lay (seen x)) _ a).0 in
+            let b = (and_parts (plain_by (seen x)) _ a).0 in
             (and_parts (fits lay.fields x.a x.b) _
             (subst (λ (v : Bool). if v (λ _. is_zero x.a && is_zero x.b)
             (λ _. fits lay.fields x.a x.b && (eqb x.language 0 && eqb (length x.text) 0)) ≡ true) q b)).1
 
     -- The look goes on after the row.
-    pub go_on : (os' : List Open) (deep' : ℕ) (t : Sums) (ts' : List ℕ) → Opened (shut lay) os x.depth lay os' deep' → Added s lay (seen x) (Some t)
+    pub go_on : (os' : List Open) (t : Sums) (ts' : List ℕ) → Opened (shut (seen x)) os (seen x) os' → Added s (seen x) (Some t)
         → length ts' ≡ 256 → ((k : ℕ) → get_or ts' k 0 ≡ counts (is_text lay.fields) (eqb x.language k) (get_or ts k 0))
         → (is_text lay.fields ≡ true → Bytes x.text) → Byte x.language → length x.text < 256
-        → Underway os' deep' t ts' xs all
-    go_on os' deep' t ts' o a l c b g n =
-        let f = after (shut lay) refl os' deep' o in
+        → Underway os' t ts' xs all
+    go_on os' t ts' o a l c b g n =
+        let f = after_row (shut (seen x)) refl os' o in
         record {
-          seventeen = f.seventeen;
           roomy = f.roomy;
           tree = u.tree ∙ (admits_step os deep x xs ∙ (goes ∙ ap (λ (ls : List Level). admits ls xs) (sym f.are)));
           fit = u.fit ∙ ap (λ (v : Bool). v || any_over xs) a.0;
           bytes = λ h. u.bytes ((g, bytes_here (is_text lay.fields) refl, n), h);
           suit = λ d. u.suit d ∙ suited d (tight x) refl;
-          base = let e : s.base + (bare_size x + base_size xs) ≡ base_size all = u.base in let w : t.base ≡ s.base + bare_size x = a.3 in omega arith;
+          base = let e : s.base + (bare_size x + base_size xs) ≡ base_size all = u.base in let w : t.base ≡ s.base + own_long x.language (seen x) = a.3 in let o = own_bare x in omega arith;
           texts = texts_on (is_text lay.fields) u.texts a.5;
           long = l;
           tally = λ k h. tally_on (is_text lay.fields) (eqb x.language k) k (u.tally k h) (c k);
@@ -402,5 +388,5 @@ module _ (os : List Open) (deep : ℕ) (s : Sums) (ts : List ℕ) (x : Told) (xs
         each_on false w k h e m = omega arith
 
         small_on : (v : Bool) → s.texts ≤ s.base → t.texts ≡ if v (λ _. suc s.texts) (λ _. s.texts) → t.texts ≤ t.base
-        small_on true h e = let w : t.base ≡ s.base + bare_size x = a.3 in let p : 0 < bare_size x = omega arith in omega arith
-        small_on false h e = let w : t.base ≡ s.base + bare_size x = a.3 in omega arith
+        small_on true h e = let w : t.base ≡ s.base + own_long x.language (seen x) = a.3 in let o = own_bare x in let p : 0 < bare_size x = omega arith in omega arith
+        small_on false h e = let w : t.base ≡ s.base + own_long x.language (seen x) = a.3 in let o = own_bare x in omega arith

@@ -1,16 +1,14 @@
 -- What is written of the first of some rows, and how long it is by what code sees of the row.
-use Rattle.std.specs.Prelude.{ℕ, suc, ◌+◌, Bool, true, false, List, [], ◌∷◌, ◌==◌}
+use Rattle.std.specs.Prelude.{ℕ, suc, ◌+◌, Bool, true, false, cond, List, [], ◌∷◌, Some, None, Option, ◌==◌, nat_lt}
+use Rattle.std.specs.List.{sum_by}
 use Rattle.grammar.specs.Format.{layout}
 use Rattle.grammar.specs.Grammar.{Rows}
 use Rattle.grammar.specs.Reading.{if, is_text}
 use Rattle.grammar.specs.Flat.{front, row_bytes}
 use Rattle.location.specs.declared.Row.{Row}
+use Rattle.location.specs.Answers.{seen}
+use Rattle.sender.specs.declared.look.Inside.{Inside}
 use Rattle.sender.specs.Writable.{RowWritable}
-
--- the rows after the first
-abbrev pub rest_of : Rows → Rows
-rest_of [] = []
-rest_of (r ∷ rs) = rs
 
 -- the front of the first row's component, and the whole of it up to its parts
 abbrev pub front_at : ℕ → Rows → ℕ → List ℕ
@@ -41,6 +39,24 @@ abbrev pub counted_in : Bool → ℕ → ℕ
 counted_in true n = n
 counted_in false n = 0
 
--- one for a row just one deeper than m, and else none
-abbrev pub one_deeper : ℕ → ℕ → ℕ
-one_deeper m x = if (x == suc m) (λ _. 1) (λ _. 0)
+-- a number, if a byte can say it
+abbrev pub as_byte : ℕ → Option ℕ
+as_byte n = cond (nat_lt n 256) (Some n) None
+
+-- the rows deeper than m, before the first that is not, by what code sees of them
+abbrev pub inside_rows : ℕ → Rows → List Row
+inside_rows m [] = []
+inside_rows m (x ∷ xs) = cond (nat_lt m x.depth) (seen x ∷ inside_rows m xs) []
+
+-- their bytes
+abbrev pub inside_long : ℕ → ℕ → Rows → ℕ
+inside_long d m rows = sum_by (own_long d) (inside_rows m rows)
+
+-- how many of them stand right in the row
+abbrev pub right_in : ℕ → List Row → ℕ
+right_in m [] = 0
+right_in m (r ∷ rs) = cond (r.depth == m + 1) 1 0 + right_in m rs
+
+-- those that are to come, where `rows` are the rows from a mark on
+abbrev pub inside_left : {L M : Type 0} → (rows : L → M → Rows) → Inside L M → List Row
+inside_left rows s = inside_rows s.depth (rows s.l.now s.at)

@@ -1,4 +1,5 @@
 pub mod Splice
+pub mod Penned
 pub mod Sent
 pub mod Writable
 pub mod Heads

@@ -1,16 +1,18 @@
 -- What one look over the rows of a location finds, and the default language that follows from it.
-use Rattle.std.specs.Prelude.{◌≡◌, ℕ, suc, ◌+◌, ◌-◌, ◌*◌, ◌<◌, ◌≤◌, Bool, true, false, cond, ◌⊎◌, List, length, Some, None, Option, ◌==◌, slice_index}
-use Rattle.grammar.specs.declared.table.Layout.{Layout}
+use Rattle.std.specs.Prelude.{◌≡◌, ℕ, suc, ◌+◌, ◌-◌, ◌*◌, ◌<◌, ◌≤◌, Bool, true, false, cond, ◌⊎◌, List, length, Some, None, Option, ◌==◌, nat_lt, slice_index}
+use Rattle.grammar.specs.Format.{layout}
 use Rattle.grammar.specs.Grammar.{Rows}
 use Rattle.grammar.specs.Reading.{if, is_text}
-use Rattle.grammar.specs.Sending.{texts_in, frame, stands}
+use Rattle.grammar.specs.Sending.{texts_in, frame, stands, sending}
+use Rattle.grammar.specs.Flat.{flat_container}
 use Rattle.grammar.specs.Admits.{admits, top_level}
 use Rattle.grammar.specs.Choice.{any_over, suits, base_size, texts as texts_of, ByteRows}
-use Rattle.location.specs.Answers.{any_row}
 use Rattle.location.specs.declared.Row.{Row}
 use Rattle.sender.specs.declared.survey.Survey.{Survey}
 use Rattle.sender.specs.declared.survey.Sums.{Sums}
-use Rattle.sender.specs.Tested.{over_by, tight_by, bare_by}
+use Rattle.sender.specs.Writable.{Writable}
+use Rattle.sender.specs.Heads.{own_long}
+use Rattle.sender.specs.Tested.{over_by, tight_by}
 
 -- a default may be d, where some text fits in one language only, or none does
 abbrev pub must_be : Option ℕ → ℕ → Bool
@@ -18,18 +20,18 @@ must_be None d = true
 must_be (Some m) d = m == d
 
 -- the sums after one more row: none where no default can serve
-abbrev pub Added : Sums → Layout → Row → Option Sums → Type 0
-Added s l r None =
-    (over_by l r.length ≡ true)
-    ⊎ (((tight_by l r.length ≡ true) × (must_be s.must r.language ≡ false))
-    ⊎ (65531 < s.base + bare_by l r.length))
-Added s l r (Some t) =
-    (over_by l r.length ≡ false)
-    × ((tight_by l r.length ≡ true) → (must_be s.must r.language ≡ true) × (t.must ≡ Some r.language))
-    × ((tight_by l r.length ≡ false) → t.must ≡ s.must)
-    × (t.base ≡ s.base + bare_by l r.length)
+abbrev pub Added : Sums → Row → Option Sums → Type 0
+Added s r None =
+    (over_by r ≡ true)
+    ⊎ (((tight_by r ≡ true) × (must_be s.must r.language ≡ false))
+    ⊎ (65531 < s.base + own_long r.language r))
+Added s r (Some t) =
+    (over_by r ≡ false)
+    × ((tight_by r ≡ true) → (must_be s.must r.language ≡ true) × (t.must ≡ Some r.language))
+    × ((tight_by r ≡ false) → t.must ≡ s.must)
+    × (t.base ≡ s.base + own_long r.language r)
     × (t.base ≤ 65531)
-    × (t.texts ≡ if (is_text l.fields) (λ _. suc s.texts) (λ _. s.texts))
+    × (t.texts ≡ if (is_text (layout r.kind).fields) (λ _. suc s.texts) (λ _. s.texts))
 
 -- all that sending needs of rows that can be sent
 pub record Surveyed (rows : Rows) (s : Survey) : Type 0 where
@@ -39,12 +41,11 @@ pub record Surveyed (rows : Rows) (s : Survey) : Type 0 where
   pub fit : any_over rows ≡ false
   pub bytes : ByteRows rows
   -- the defaults under which each text fits
-  pub suit : (d : ℕ) → suits d rows ≡ must_be s.must d
-  pub base : s.base ≡ base_size rows
-  pub texts : s.texts ≡ texts_of rows
+  pub suit : (d : ℕ) → suits d rows ≡ must_be s.sums.must d
+  pub base : s.sums.base ≡ base_size rows
+  pub texts : s.sums.texts ≡ texts_of rows
   pub long : length s.tally ≡ 256
   pub tally : (k : ℕ) → k < 256 → slice_index s.tally k ≡ texts_in k rows
-  pub some : s.some ≡ any_row rows
   pub few : frame rows + base_size rows ≤ 65535
 
 -- what a look over the rows gives: nothing where they stand under no default
@@ -55,13 +56,13 @@ Found rows (Some s) = Surveyed rows s
 -- the numbers that a choice starts from
 pub record Bounded (s : Survey) : Type 0 where
   pub long : length s.tally ≡ 256
-  pub base : s.base ≤ 65535
-  pub texts : s.texts ≤ 65535
-  pub each : (k : ℕ) → k < 256 → slice_index s.tally k ≤ s.texts
+  pub base : s.sums.base ≤ 65535
+  pub texts : s.sums.texts ≤ 65535
+  pub each : (k : ℕ) → k < 256 → slice_index s.tally k ≤ s.sums.texts
 
 -- the length under the default d
 abbrev pub length_for : Survey → ℕ → ℕ
-length_for s d = cond s.some 4 1 + s.base + 3 * (s.texts - slice_index s.tally d)
+length_for s d = cond (nat_lt 0 s.sums.base) 4 1 + s.sums.base + 3 * (s.sums.texts - slice_index s.tally d)
 
 -- d has the highest number of the first n, and is the lowest such
 abbrev pub Highest : List ℕ → ℕ → ℕ → Type 0
@@ -69,8 +70,14 @@ Highest xs n d = (e : ℕ) → e < n → (slice_index xs e < slice_index xs d) �
 
 -- the length and the default that are chosen: none where each default that serves gives too long a container
 abbrev pub Chosen : Survey → Option (ℕ × ℕ) → Type 0
-Chosen s None = (d : ℕ) → d < 256 → must_be s.must d ≡ true → 65535 < length_for s d
+Chosen s None = (d : ℕ) → d < 256 → must_be s.sums.must d ≡ true → 65535 < length_for s d
 Chosen s (Some c) =
-    (c.1 < 256) × (must_be s.must c.1 ≡ true) × (c.0 ≡ length_for s c.1) × (c.0 ≤ 65535)
-    × ((e : ℕ) → e < 256 → must_be s.must e ≡ true
+    (c.1 < 256) × (must_be s.sums.must c.1 ≡ true) × (c.0 ≡ length_for s c.1) × (c.0 ≤ 65535)
+    × ((e : ℕ) → e < 256 → must_be s.sums.must e ≡ true
     → (slice_index s.tally e < slice_index s.tally c.1) ⊎ ((slice_index s.tally e ≡ slice_index s.tally c.1) × (c.1 ≤ e)))
+
+-- what is sent of some rows, by its length and its default: nothing where no container stands for them
+abbrev pub Settled : Rows → Option (ℕ × ℕ) → Type 0
+Settled rows None = sending rows ≡ None
+Settled rows (Some (n, d)) =
+    (sending rows ≡ Some (flat_container d rows)) × (length (flat_container d rows) ≡ n) × (n ≤ 65535) × Writable d rows

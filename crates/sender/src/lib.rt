@@ -3,37 +3,36 @@
 
 ghost use Rattle.std.specs.Prelude.{◌≡◌, ℕ, ◌≤◌, ◌++◌, length as long, drop};
 ghost use Rattle.grammar.specs.Flat.{flat_container};
-ghost use Rattle.location.specs.Answers.{any_row};
 ghost use Rattle.sender.specs.Writable.{Writable};
 ghost use Rattle.sender.specs.Sent.{Sent, SentBest};
 
 mod look;
-mod put;
+mod pen;
 mod rows;
 mod survey;
 
 use grammar::{DESCRIPTIONS, SendFault, TOP_WIDTH};
 use location::Location;
-use put::{put_byte, put_number};
+use pen::Pen;
 use rows::put_rows;
-use survey::{choose, take_survey};
+use survey::settle;
 
 // The bytes before the rows, where there are any: the default language, and the header of the descriptions.
 const FRAME: usize = 2 + TOP_WIDTH;
 
-// The container of the rows under a default, of which the length is known, and whether there are rows.
-fn put_container<L: Location>(l: &L, some: bool, default: u8, size: usize, out: &mut [u8])
-    requires good { Writable default (L.Location.whole l.now) }
-    requires any { some ≡ any_row (L.Location.whole l.now) }
-    requires sized { (size ≡ long (flat_container default (L.Location.whole l.now))) × (size ≤ 65535) }
+// The container of the rows under a default, of which the length is known: one that is longer than the frame has rows.
+fn put_container<L: Location>(l: &L, default: u8, size: usize, out: &mut [u8])
+    requires good { Writable default (L.whole l.now) }
+    requires sized { (size ≡ long (flat_container default (L.whole l.now))) × (size ≤ 65535) }
     requires room { size ≤ long out.old }
-    ensures { out.new ≡ flat_container default (L.Location.whole l.now) ++ drop size out.old }
+    ensures { out.new ≡ flat_container default (L.whole l.now) ++ drop size out.old }
 {
-    put_byte(out, 0, default);
-    if some {
-        put_byte(out, 1, DESCRIPTIONS);
-        put_number(out, 2, TOP_WIDTH, size - FRAME);
-        put_rows(l, default, out, FRAME);
+    let mut pen = Pen::new(out);
+    pen.byte(default);
+    if let Some(inside) = size.checked_sub(FRAME) {
+        pen.byte(DESCRIPTIONS);
+        pen.number(TOP_WIDTH, inside);
+        put_rows(l, default, &mut pen);
     }
 }
 
@@ -41,18 +40,13 @@ fn put_container<L: Location>(l: &L, some: bool, default: u8, size: usize, out: 
 /// shortest the one with the lowest default language. Answers its length and its default language. Where no container tells the rows, or the output has
 /// too little room, the output is left as it is.
 pub fn send<L: Location>(l: &L, out: &mut [u8]) -> Result<(usize, u8), SendFault>
-    ensures sent { Sent (L.Location.whole l.now) out.old result out.new }
-    ensures best { SentBest (L.Location.whole l.now) out.old result out.new }
+    ensures sent { Sent (L.whole l.now) out.old result out.new }
+    ensures best { SentBest (L.whole l.now) out.old result out.new }
 {
-    let Some(survey) = take_survey(l) else {
-        return Err(SendFault::NoContainer);
-    };
-    let Some((size, default)) = choose(&survey) else {
-        return Err(SendFault::NoContainer);
-    };
+    let (size, default) = settle(l).ok_or(SendFault::NoContainer)?;
     if out.len() < size {
         return Err(SendFault::NoRoom { needed: size });
     }
-    put_container(l, survey.some, default, size, out);
+    put_container(l, default, size, out);
     Ok((size, default))
 }

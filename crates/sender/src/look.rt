@@ -1,18 +1,26 @@
 // Looks ahead: how many bytes and how many parts stand inside a row's component.
-ghost use Rattle.std.specs.Prelude.{◌≡◌, ℕ, ◌<◌, ◌≤◌, true};
+ghost use Rattle.std.specs.Prelude.{◌≡◌, ℕ, ◌≤◌};
+ghost use Rattle.std.specs.Iterator.{YieldsFirst, item_count};
 ghost use Rattle.grammar.specs.Format.{layout};
 ghost use Rattle.grammar.specs.Reading.{is_count};
-ghost use Rattle.grammar.specs.Flat.{inside_size, held_count};
-ghost use Rattle.sender.specs.Heads.{language_long, front_long, own_long, counted_in, one_deeper};
+ghost use Rattle.grammar.specs.Flat.{held_count};
+ghost use Rattle.sender.specs.Heads.{language_long, front_long, own_long, counted_in, as_byte, inside_rows, inside_long, inside_left};
 
 use grammar::layout_of;
-use location::{Location, Row};
+use location::{Location, Row, Step};
 
-// The bytes of the part that says a text's language, if it is not the default.
+// The bytes of the part that says a text's language.
+pub(crate) const LANGUAGE_PART: usize = 3;
+
+// The bytes of that part, if the language is not the default.
 fn language_size(language: u8, default: u8) -> usize
     ensures { result ≡ language_long default language }
 {
-    if language == default { 0 } else { 3 }
+    if language == default {
+        0
+    } else {
+        LANGUAGE_PART
+    }
 }
 
 // The bytes of a row's component between its header and its parts.
@@ -34,65 +42,70 @@ pub(crate) fn own_size(row: Row, default: u8) -> usize
     1 + width + front_size(row, default)
 }
 
-// The bytes of the rows from a mark on that are deeper than a depth, up to the first that is not.
-pub(crate) fn inside_size<L: Location>(l: &L, m: L::Mark, depth: u8, default: u8) -> usize
-    requires { inside_size default depth (L.Location.rows l.now m) ≤ 65535 }
-    ensures { result ≡ inside_size default depth (L.Location.rows l.now m) }
-{
-    let mut at = m;
-    let mut size: usize = 0;
-    while let Some(row) = l.row(at) {
-        if row.depth <= depth {
-            return size;
-        }
-        match l.next(at) {
-            Some(n) => {
-                size += own_size(row, default);
-                at = n;
-            }
-            None => return size,
-        }
-    }
-    size
+// Goes over the rows that are deeper than a depth, up to the first that is not.
+#[derive(Drop)]
+struct Inside<'l, L: Location> {
+    l: &'l L,
+    at: L::Mark,
+    depth: u8,
 }
 
-// One, if a row at this depth stands right in a row at the other.
-fn right_in(inner: u8, depth: u8) -> u8
-    requires { depth < inner }
-    ensures { result ≡ one_deeper depth inner }
-{
-    if inner - 1 == depth { 1 } else { 0 }
+impl<'l, L: Location> Iterator for Inside<'l, L> {
+    type Item = Row;
+
+    ghost next_gives = { YieldsFirst (inside_left L.rows) };
+
+    ghost remaining = { item_count (inside_left L.rows) };
+
+    fn next(&mut self) -> Option<Row> {
+        let row = self.l.row(self.at)?;
+        if row.depth <= self.depth {
+            return None;
+        }
+        self.at = self.l.next(self.at)?;
+        Some(row)
+    }
 }
 
-// How many of those rows stand right in the row at that depth.
-pub(crate) fn held_count<L: Location>(l: &L, m: L::Mark, depth: u8) -> u8
-    requires { held_count depth (L.Location.rows l.now m) < 256 }
-    ensures { result ≡ held_count depth (L.Location.rows l.now m) }
+// The rows inside a row.
+fn rows_inside<'l, L: Location>(l: &'l L, step: &Step<L::Mark>) -> Inside<'l, L>
+    ensures { inside_left L.rows result ≡ inside_rows step.now.row.depth (L.rows l.now step.now.rest) }
 {
-    let mut at = m;
-    let mut count: u8 = 0;
-    while let Some(row) = l.row(at) {
-        if row.depth <= depth {
-            return count;
-        }
-        match l.next(at) {
-            Some(n) => {
-                count += right_in(row.depth, depth);
-                at = n;
-            }
-            None => return count,
-        }
+    Inside {
+        l,
+        at: step.rest,
+        depth: step.row.depth,
     }
-    count
 }
 
-// The same where a kind's fields count its parts, and none where they do not.
-pub(crate) fn counted_parts<L: Location>(l: &L, m: L::Mark, kind: u8, depth: u8) -> u8
-    requires { is_count (layout kind).fields ≡ true → held_count depth (L.Location.rows l.now m) < 256 }
-    ensures { result ≡ counted_in (is_count (layout kind).fields) (held_count depth (L.Location.rows l.now m)) }
+// The bytes of those rows.
+pub(crate) fn inside_size<L: Location>(l: &L, step: &Step<L::Mark>, default: u8) -> usize
+    requires { inside_long default step.now.row.depth (L.rows l.now step.now.rest) ≤ 65535 }
+    ensures { result ≡ inside_long default step.now.row.depth (L.rows l.now step.now.rest) }
 {
-    if layout_of(kind).counts_nodes() {
-        return held_count(l, m, depth);
+    rows_inside(l, step).map(|row| own_size(row, default)).sum()
+}
+
+// How many of them stand right in the row, if a byte can say it.
+fn held_count<L: Location>(l: &L, step: &Step<L::Mark>) -> Option<u8>
+    ensures { result ≡ as_byte (held_count step.now.row.depth (L.rows l.now step.now.rest)) }
+{
+    let depth = step.row.depth;
+    let mut held: u8 = 0;
+    for row in rows_inside(l, step) {
+        let right_in = u16::from(row.depth) == u16::from(depth) + 1;
+        held = held.checked_add(u8::from(right_in))?;
     }
-    0
+    Some(held)
+}
+
+// The same where the fields of the row's kind count its parts, and none where they do not.
+pub(crate) fn counted_parts<L: Location>(l: &L, step: &Step<L::Mark>) -> Option<u8>
+    ensures { result ≡ as_byte (counted_in (is_count (layout step.now.row.kind).fields) (held_count step.now.row.depth (L.rows l.now step.now.rest))) }
+{
+    if layout_of(step.row.kind).counts_nodes() {
+        held_count(l, step)
+    } else {
+        Some(0)
+    }
 }

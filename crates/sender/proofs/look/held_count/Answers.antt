@@ -1,30 +1,19 @@
-use Rattle.std.proofs.Common.{arith}
-use Rattle.grammar.specs.Grammar.{Rows}
-use Rattle.sender.proofs.Looked.{count_none, count_end, count_turn}
+use Rattle.std.proofs.Common.{◌≡◌, ◌+◌, cond, eqb, ap, arith}
+use Rattle.sender.specs.Heads.{right_in}
+use Rattle.sender.proofs.Looked.{held_is, said, unsaid}
 use Rattle.sender.proofs.look.held_count.Goals as goal
 
-pub returns-then-row-depth : goal.returns-then-row-depth
-returns-then-row-depth g c =
-    let xs : Rows = g.L.Location.rows c.args.l.now c.loop-row.at in
-    let z = count_end 0 c.args.depth c.in-Some.row xs c.in-Some.ensures c.if-row-depth.true in
-    omega (arith, c.loop-row.invariant)
-
-pub overflow_add-count : goal.overflow_add-count
-overflow_add-count g c =
-    let xs : Rows = g.L.Location.rows c.args.l.now c.loop-row.at in
-    let z = count_turn 0 c.args.depth c.in-Some.row (g.L.Location.rows c.args.l.now) c.in-Some-next.n xs
-    c.in-Some.ensures c.in-Some-next.ensures c.if-row-depth.false in
-    omega (arith, c.loop-row.invariant, c.right_in-count.ensures, c.requires)
-
-pub loop-row-preserved : goal.loop-row-preserved
-loop-row-preserved g c =
-    let xs : Rows = g.L.Location.rows c.args.l.now c.loop-row.at in
-    let z = count_turn 0 c.args.depth c.in-Some.row (g.L.Location.rows c.args.l.now) c.in-Some-next.n xs
-    c.in-Some.ensures c.in-Some-next.ensures c.if-row-depth.false in
-    omega (arith, c.loop-row.invariant, c.right_in-count.ensures)
+pub returns-in_err-held : goal.returns-in_err-held
+returns-in_err-held g c =
+    let n = held_is c.args.step.now.row.depth (g.L.Location.rows c.args.l.now c.args.step.now.rest) in
+    let r = ap (right_in c.args.step.now.row.depth) c.in-Some.ensures.steps in
+    let k = c.loop-row.invariant.3 in
+    let e : c.from-in-loop-row-2.result ≡ cond (eqb c.in-Some.row.depth (c.args.step.now.row.depth + 1)) 1 0 = grind arith in
+    rw c.from_residual.ensures (unsaid _ (omega (arith, c.in_err-held.ensures)))
 
 pub returns : goal.returns
 returns g c =
-    let xs : Rows = g.L.Location.rows c.args.l.now c.loop-row.at in
-    let z = count_none c.args.depth xs c.in_default.ensures in
-    omega (arith, c.loop-row.invariant)
+    let n = held_is c.args.step.now.row.depth (g.L.Location.rows c.args.l.now c.args.step.now.rest) in
+    let r = ap (right_in c.args.step.now.row.depth) c.in-None.ensures.steps.0 in
+    let k = c.loop-row.invariant.3 in
+    said _ _ (omega arith) c.loop-row.invariant.2

@@ -1,51 +1,31 @@
-use Rattle.std.proofs.Common.{◌≡◌, ℕ, [], length, sym, ap, ◌∙◌, arith}
+use Rattle.std.proofs.Common.{ℕ, length, sym, ap, ◌∙◌, arith}
 use Rattle.grammar.specs.Grammar.{Rows}
-use Rattle.grammar.specs.Flat.{flat}
-use Rattle.sender.specs.Splice.{splice}
-use Rattle.sender.specs.Heads.{rest_of}
-use Rattle.sender.proofs.Spliced.{splice_none}
-use Rattle.sender.proofs.Headed.{next_rest, first_writable, rest_writable, flat_turn_long, rows_turn, flat_none}
+use Rattle.location.specs.Steps.{steps_left}
+use Rattle.sender.specs.Heads.{head_bytes}
+use Rattle.sender.proofs.Penned.{none_wrote, behind, wrote_as}
+use Rattle.sender.proofs.Headed.{lent_rows, rest_writable, flat_turn, flat_turn_long, flat_none}
 use Rattle.sender.proofs.rows.put_rows.Goals as goal
 
-pub put_row-at-requires : goal.put_row-at-requires
-put_row-at-requires g c =
-    let f = g.L.Location.rows c.args.l.now in
+pub loop-step-preserved : goal.loop-step-preserved
+loop-step-preserved g c =
     let d : ℕ = c.args.default in
-    let xs : Rows = f c.loop-row.m in
-    let e : f c.in-Some-next.rest ≡ rest_of xs = next_rest f c.in-Some-next.rest xs c.in-Some-next.ensures in
-    let n = flat_turn_long d xs (f c.in-Some-next.rest) e in
-    record {
-      there = sym c.in-Some.ensures;
-      follows = e;
-      good = first_writable d xs c.loop-row.invariant.2;
-      room = omega (arith, n, c.loop-row.invariant.1, c.requires.room);
-    }
-
-pub loop-row-preserved : goal.loop-row-preserved
-loop-row-preserved g c =
-    let f = g.L.Location.rows c.args.l.now in
-    let d : ℕ = c.args.default in
-    let xs : Rows = f c.loop-row.m in
-    let ys : Rows = f c.in-Some-next.rest in
-    let e : ys ≡ rest_of xs = next_rest f c.in-Some-next.rest xs c.in-Some-next.ensures in
-    let n = flat_turn_long d xs ys e in (
-      rows_turn d xs ys c.loop-row.out c.put_row-at.new.out c.loop-row.at c.put_row-at.result e
-          c.put_row-at.ensures.wrote c.put_row-at.ensures.next (omega (arith, c.loop-row.invariant.1, c.requires.room))
-          ∙ c.loop-row.invariant.0,
-      omega (arith, n, c.loop-row.invariant.1, c.put_row-at.ensures.next),
-      rest_writable d xs ys e c.loop-row.invariant.2,
+    let t = c.in-Some.ensures.steps in
+    let k = c.loop-step.invariant in
+    let xs : Rows = steps_left g.L.Location.rows c.loop-step.step-iterator in
+    let ys : Rows = steps_left g.L.Location.rows c.next.new.self in
+    let m = lent_rows g.L.Location.rows _ _ c.in-Some.step.mark xs k.2 t.1.0 in
+    let w = wrote_as _ _ _ _ (ap (head_bytes d) m) c.put_row.ensures in
+    let n = flat_turn_long d xs ys t.2 in (
+      tt,
+      tt,
+      t.3 ∙ k.2,
+      λ p v. k.3 p (wrote_as _ _ _ _ (sym (flat_turn d xs ys t.2)) (behind _ _ _ _ _ w v)),
+      omega (arith, k.4, w.next, w.long),
+      rest_writable d xs ys t.2 k.5,
     )
 
 pub returns : goal.returns
 returns g c =
-    let d : ℕ = c.args.default in
-    let xs : Rows = g.L.Location.rows c.args.l.now c.loop-row.m in
-    let e : flat d xs ≡ [] = flat_none d xs c.in_default.ensures in
+    let e = flat_none c.args.default (steps_left g.L.Location.rows c.loop-step.step-iterator) c.in-None.ensures.steps.0 in
     let n = ap length e in
-    record {
-      wrote =
-          sym (splice_none c.loop-row.out c.loop-row.at)
-          ∙ ap (splice c.loop-row.out c.loop-row.at) (sym e)
-          ∙ c.loop-row.invariant.0;
-      next = omega (arith, n, c.loop-row.invariant.1);
-    }
+    c.loop-step.invariant.3 c.loop-step.pen (wrote_as _ _ _ _ (sym e) (none_wrote _ (omega (arith, c.loop-step.invariant.4))))

@@ -1,16 +1,17 @@
-use Rattle.std.proofs.Common.{◌≡◌, ◌+◌, length}
+use Rattle.std.proofs.Common.{◌≡◌, length}
 use Rattle.grammar.specs.Flat.{flat}
-use Rattle.sender.specs.Splice.{splice}
+use Rattle.location.specs.Steps.{steps_left}
+use Rattle.sender.specs.declared.pen.Pen.{Pen}
+use Rattle.sender.specs.Penned.{Room, Wrote}
 use Rattle.sender.specs.Writable.{Writable}
 use Rattle.sender.proofs.rows.put_rows.Given as goal
 
 -- what is written, with what is to come, is the whole
-abbrev pub invariant-loop-row : goal.invariant-loop-row
-invariant-loop-row g l =
-    (splice l.out l.at (flat l.default (g.L.Location.rows l.l l.m))
-    ≡ splice l.initial.out l.initial.at (flat l.default (g.L.Location.whole l.l)))
-    × (l.at + length (flat l.default (g.L.Location.rows l.l l.m)) ≡ l.initial.at + length (flat l.default (g.L.Location.whole l.l)))
-    × Writable l.default (g.L.Location.rows l.l l.m)
-
-abbrev pub decreases-loop-row : goal.decreases-loop-row
-decreases-loop-row g l = length (g.L.Location.rows l.l l.m)
+abbrev pub invariant-loop-step : goal.invariant-loop-step
+invariant-loop-step g l =
+    (goal.iterator-loop-step g).can_next l.step-iterator
+    × (goal.iterator-loop-step g).is_finite l.step-iterator
+    × (l.step-iterator.below.now ≡ l.l)
+    × ((p : Pen) → Wrote l.pen (flat l.default (steps_left g.L.Location.rows l.step-iterator)) p → Wrote l.initial.pen (flat l.default (g.L.Location.whole l.l)) p)
+    × Room l.pen (length (flat l.default (steps_left g.L.Location.rows l.step-iterator)))
+    × Writable l.default (steps_left g.L.Location.rows l.step-iterator)

@@ -1,61 +1,59 @@
-use Rattle.std.proofs.Common.{◌≡◌, ◌<◌, length, arith, rules}
-use Rattle.location.proofs.Copied.{head_long}
-use Rattle.sender.proofs.Underway.{start}
-use Rattle.sender.proofs.Turned.{fewer, turned_off, turned_away, nodes_around, room_inside, turned}
+use Rattle.std.proofs.Common.{◌≡◌, ◌<◌, ◌++◌, [], ◌∷◌, List, length, ap, ◌∙◌, arith, rules, subst, sym}
+use Rattle.grammar.specs.Grammar.{Rows, Bytes}
+use Rattle.location.specs.Answers.{head_text}
+use Rattle.location.specs.Steps.{steps_left}
+use Rattle.sender.specs.declared.survey.Open.{Open}
+use Rattle.sender.proofs.Headed.{lent_rows}
+use Rattle.sender.proofs.Underway.{Underway, start, top_open}
+use Rattle.sender.proofs.Turned.{turned_off, turned_away, room_inside, turned}
 use Rattle.sender.proofs.survey.take_survey.Goals as goal
 
-pub loop-row-init : goal.loop-row-init
-loop-row-init g c =
-    start (g.L.Location.whole c.args.l.now) (g.L.Location.rows c.args.l.now c.first-at.result) c.first-at.ensures
+pub loop-step-init : goal.loop-step-init
+loop-step-init g c = (
+  tt,
+  tt,
+  ap (λ (s : _). s.below.now) c.into_iter-step-iterator.ensures.into_iter_gives ∙ c.steps_of-step-items.ensures.below,
+  start _ _ c.push.new.self.items
+      (ap (steps_left g.L.Location.rows) c.into_iter-step-iterator.ensures.into_iter_gives ∙ c.steps_of-step-items.ensures.left)
+      (c.push.ensures.items ∙ ap (λ (os : List Open). os ++ top_open ∷ []) c.new-holders.ensures),
+)
 
 pub returns-then-not-stands_at : goal.returns-then-not-stands_at
 returns-then-not-stands_at g c =
-    turned_away (g.L.Location.rows c.args.l.now) (g.L.Location.whole c.args.l.now)
-    c.loop-row.holders c.loop-row.deep c.loop-row.sums c.loop-row.tally c.loop-row.at c.in-Some-next.after c.in-Some.row
-    c.loop-row.invariant c.in-Some.ensures c.in-Some-next.ensures
-    c.layout_of-layout.result c.layout_of-layout.ensures c.few_parts-few.result c.few_parts-few.ensures
-    c.stands_at.result c.stands_at.ensures c.if-not-stands_at.true
+    let t = c.in-Some.ensures.steps in
+    let k = c.loop-step.invariant in
+    turned_away _ _ _ _ _ _ c.in-Some.step.row k.3 t.0 (lent_rows g.L.Location.rows _ _ c.in-Some.step.rest _ k.2 t.1.1)
+    c.few_parts-few.result c.stands_at.result c.few_parts-few.ensures c.stands_at.ensures c.if-not-stands_at.true
 
-pub read_text-requires : goal.read_text-requires
-read_text-requires g c = head_long (g.L.Location.rows c.args.l.now c.loop-row.at) c.in-Some.row c.in-Some.ensures
+pub returns-in_err-sums : goal.returns-in_err-sums
+returns-in_err-sums g c =
+    let t = c.in-Some.ensures.steps in
+    let k = c.loop-step.invariant in
+    rw c.from_residual.ensures
+    (turned_off _ _ _ _ _ _ c.in-Some.step.row k.3 t.0 (lent_rows g.L.Location.rows _ _ c.in-Some.step.rest _ k.2 t.1.1) c.in_err-sums.ensures)
 
-pub returns-in_default-add : goal.returns-in_default-add
-returns-in_default-add g c =
-    turned_off (g.L.Location.rows c.args.l.now) (g.L.Location.whole c.args.l.now)
-    c.loop-row.holders c.loop-row.deep c.loop-row.sums c.loop-row.tally c.loop-row.at c.in-Some-next.after c.in-Some.row
-    c.loop-row.invariant c.in-Some.ensures c.in-Some-next.ensures
-    c.layout_of-layout.result c.layout_of-layout.ensures c.in_default-add.ensures
+pub open_row-requires-clause-room : goal.open_row-requires-clause-room
+open_row-requires-clause-room g c =
+    let t = c.in-Some.ensures.steps in
+    let k = c.loop-step.invariant in
+    room_inside _ _ _ _ _ _ c.in-Some.step.row k.3 t.0 (lent_rows g.L.Location.rows _ _ c.in-Some.step.rest _ k.2 t.1.1)
+    c.few_parts-few.result c.stands_at.result c.few_parts-few.ensures c.stands_at.ensures c.if-not-stands_at.false
 
-pub open_row-deep-requires : goal.open_row-deep-requires
-open_row-deep-requires g c =
-    record {
-      eight = nodes_around (g.L.Location.rows c.args.l.now) (g.L.Location.whole c.args.l.now)
-          c.loop-row.holders c.loop-row.deep c.loop-row.sums c.loop-row.tally c.loop-row.at c.in-Some-next.after c.in-Some.row
-          c.loop-row.invariant c.in-Some.ensures c.in-Some-next.ensures
-          c.layout_of-layout.result c.layout_of-layout.ensures c.few_parts-few.result c.few_parts-few.ensures
-          c.stands_at.result c.stands_at.ensures c.if-not-stands_at.false;
-      room = room_inside (g.L.Location.rows c.args.l.now) (g.L.Location.whole c.args.l.now)
-          c.loop-row.holders c.loop-row.deep c.loop-row.sums c.loop-row.tally c.loop-row.at c.in-Some-next.after c.in-Some.row
-          c.loop-row.invariant c.in-Some.ensures c.in-Some-next.ensures
-          c.layout_of-layout.result c.layout_of-layout.ensures c.few_parts-few.result c.few_parts-few.ensures
-          c.stands_at.result c.stands_at.ensures c.if-not-stands_at.false;
-    }
-
-pub loop-row-smaller : goal.loop-row-smaller
-loop-row-smaller g c =
-    fewer (g.L.Location.rows c.args.l.now) (g.L.Location.whole c.args.l.now)
-    c.loop-row.holders c.loop-row.deep c.loop-row.sums c.loop-row.tally c.loop-row.at c.in-Some-next.after c.in-Some.row
-    c.loop-row.invariant c.in-Some.ensures c.in-Some-next.ensures
-
-pub loop-row-preserved : goal.loop-row-preserved
-loop-row-preserved g c =
-    let long : length c.count_text.new.tally ≡ 256 = omega (arith, c.count_text.auto.tally, c.loop-row.invariant.long) in
-    let language : c.in-Some.row.language < 256 = search rules in
-    let short : c.in-Some.row.length < 256 = search rules in
-    turned (g.L.Location.rows c.args.l.now) (g.L.Location.whole c.args.l.now)
-    c.loop-row.holders c.loop-row.deep c.loop-row.sums c.loop-row.tally c.loop-row.at c.in-Some-next.after c.in-Some.row
-    c.loop-row.invariant c.in-Some.ensures c.in-Some-next.ensures
-    c.layout_of-layout.result c.layout_of-layout.ensures c.few_parts-few.result c.few_parts-few.ensures
-    c.stands_at.result c.stands_at.ensures c.if-not-stands_at.false
-    c.open_row-deep.new.holders c.open_row-deep.result c.in-Some-add.more c.count_text.new.tally
-    c.open_row-deep.ensures c.in-Some-add.ensures long c.count_text.ensures c.read_text.ensures language short
+pub loop-step-preserved : goal.loop-step-preserved
+loop-step-preserved g c =
+    let t = c.in-Some.ensures.steps in
+    let k = c.loop-step.invariant in
+    let r = lent_rows g.L.Location.rows _ _ c.in-Some.step.rest _ k.2 t.1.1 in
+    let m = lent_rows g.L.Location.rows _ _ c.in-Some.step.mark _ k.2 t.1.0 in
+    let long : length c.count_text.new.tally ≡ 256 = omega (arith, c.count_text.auto.tally, k.3.long) in
+    let language : c.in-Some.step.row.language < 256 = search rules in
+    let short : c.in-Some.step.row.length < 256 = search rules in (
+      tt,
+      tt,
+      t.3 ∙ k.2,
+      subst (λ (rows : Rows). Underway c.open_row.new.holders.items c.in_ok-sums.sums c.count_text.new.tally rows (g.L.Location.whole c.args.l.now)) (r ∙ sym t.2)
+          (turned _ _ _ _ _ _ c.in-Some.step.row k.3 t.0 r
+          c.few_parts-few.result c.stands_at.result c.few_parts-few.ensures c.stands_at.ensures c.if-not-stands_at.false
+          c.open_row.new.holders.items c.in_ok-sums.sums c.count_text.new.tally c.open_row.ensures c.in_ok-sums.ensures long c.count_text.ensures
+          (λ q. subst Bytes (ap head_text m) (c.read_text.ensures q)) language short),
+    )

@@ -1,9 +1,11 @@
-use Rattle.std.proofs.Common.{length}
+use Rattle.std.proofs.Common.{◌≡◌}
+use Rattle.location.specs.Steps.{steps_left}
 use Rattle.sender.proofs.Underway.{Underway}
 use Rattle.sender.proofs.survey.take_survey.Given as goal
 
-abbrev pub invariant-loop-row : goal.invariant-loop-row
-invariant-loop-row g l = Underway l.holders l.deep l.sums l.tally (g.L.Location.rows l.l l.at) (g.L.Location.whole l.l)
-
-abbrev pub decreases-loop-row : goal.decreases-loop-row
-decreases-loop-row g l = length (g.L.Location.rows l.l l.at)
+abbrev pub invariant-loop-step : goal.invariant-loop-step
+invariant-loop-step g l =
+    (goal.iterator-loop-step g).can_next l.step-iterator
+    × (goal.iterator-loop-step g).is_finite l.step-iterator
+    × (l.step-iterator.below.now ≡ l.l)
+    × Underway l.holders.items l.sums l.tally (steps_left g.L.Location.rows l.step-iterator) (g.L.Location.whole l.l)
