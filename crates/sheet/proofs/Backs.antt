@@ -1,58 +1,22 @@
--- The open kinds, as they lie in an array.
+-- The open kinds, as they lie in a list, the innermost last.
 -- Assumes nothing.
-use Rattle.std.proofs.Common.{◌≡◌, ℕ, zero, suc, ◌+◌, ◌-◌, ◌<◌, ◌≤◌, ◌≢◌, List, [], ◌∷◌, length, get_or, set, sym, refl, ap, ◌∙◌, arith, get_or-set_other, get_or-set_same}
+use Rattle.std.proofs.Common.{◌≡◌, ℕ, suc, ◌+◌, ◌-◌, ◌<◌, ◌≤◌, List, [], ◌∷◌, length, get_or, take, reverse, sym, ap, ◌∙◌, arith, take_all, length-take-le}
+use Rattle.std.proofs.lemmas.List.{take_more, reverse-append, length-reverse}
 use Rattle.grammar.specs.declared.table.Spot.{Spot}
 use Rattle.grammar.specs.declared.table.Spot.TheVariants.{Descriptions, Node, Reference, Place, Modes, Associated, Nowhere}
 use Rattle.grammar.specs.declared.table.Layout.{Layout}
-use Rattle.grammar.specs.Format.{layout}
 use Rattle.grammar.specs.Grammar.{deeper}
-use Rattle.grammar.specs.Sheet.{innermost, nodes_open, one_less}
-use Rattle.sheet.specs.Open.{back}
+use Rattle.grammar.specs.Format.{layout}
+use Rattle.grammar.specs.Sheet.{nodes_open}
 
-pub back_none : (ks : List ℕ) → back 0 ks ≡ []
-unfolding back
-back_none ks = refl
-
-pub back_length : (n : ℕ) (ks : List ℕ) → length (back n ks) ≡ n
-unfolding back
-back_length zero ks = refl
-back_length (suc n) ks = ap suc (back_length n ks)
+-- the kinds up to a place and the one there
+pub back_more : (ks : List ℕ) (i : ℕ) → i < length ks → reverse (take (i + 1) ks) ≡ get_or ks i 0 ∷ reverse (take i ks)
+back_more ks i h = ap reverse (take_more ks i 0 h) ∙ reverse-append (take i ks) (get_or ks i 0 ∷ [])
 
 -- the innermost comes first
-pub back_last : (n : ℕ) (ks : List ℕ) → 0 < n → back n ks ≡ get_or ks (n - 1) 0 ∷ back (n - 1) ks
-unfolding back
-back_last zero ks h = absurd (omega arith)
-back_last (suc n) ks h = let e : suc n - 1 ≡ n = omega arith in rw e
-
-pub back_more : (n : ℕ) (ks : List ℕ) → back (n + 1) ks ≡ get_or ks n 0 ∷ back n ks
-unfolding back
-back_more n ks = let e : n + 1 ≡ suc n = omega arith in rw e
-
--- what stands further on does not matter
-pub back_set : (n i v : ℕ) (ks : List ℕ) → n ≤ i → back n (set ks i v) ≡ back n ks
-unfolding back
-back_set zero i v ks h = refl
-back_set (suc n) i v ks h =
-    let ne : n ≢ i = omega arith in
-    let a : get_or (set ks i v) n 0 ≡ get_or ks n 0 = get_or-set_other ks i n v 0 ne in
-    let b = back_set n i v ks (omega arith) in
-    cc
-
-pub back_push : (n v : ℕ) (ks : List ℕ) → n < length ks → back (n + 1) (set ks n v) ≡ v ∷ back n ks
-back_push n v ks h =
-    let a : get_or (set ks n v) n 0 ≡ v = get_or-set_same ks n v 0 h in
-    let b = back_set n n v ks (omega arith) in
-    let e = back_more n (set ks n v) in
-    cc
-
-pub spot_none : (ks : List ℕ) (n : ℕ) → n ≡ 0 → Descriptions ≡ innermost (back n ks)
-spot_none ks n e = rw e (ap innermost (sym (back_none ks)))
-
-pub spot_last : (ks : List ℕ) (n : ℕ) → 0 < n → (layout (get_or ks (n - 1) 0)).inside ≡ innermost (back n ks)
-spot_last ks n h = sym (ap innermost (back_last n ks h))
-
-pub less_back : (ks : List ℕ) (n : ℕ) → 0 < n → back (n - 1) ks ≡ one_less (back n ks)
-less_back ks n h = sym (ap one_less (back_last n ks h))
+pub back_last : (ks : List ℕ) → 0 < length ks → reverse ks ≡ get_or ks (length ks - 1) 0 ∷ reverse (take (length ks - 1) ks)
+back_last ks h =
+    ap reverse (sym (take_all (length ks - 1 + 1) ks (omega arith))) ∙ back_more ks (length ks - 1) (omega arith)
 
 pub nodes_few : (ks : List ℕ) → nodes_open ks ≤ length ks
 nodes_few [] = omega arith
@@ -68,10 +32,12 @@ nodes_few (k ∷ ks) = let h = nodes_few ks in go (layout k).inside (nodes_open 
     go Nowhere n m h = omega arith
 
 -- one row more on the way from the outermost to the innermost
-pub nodes_more : (ks : List ℕ) (i n r : ℕ) (l : Layout) → l ≡ layout (get_or ks i 0) → n ≡ nodes_open (back i ks) → r ≡ deeper l.inside n
-    → r ≡ nodes_open (back (i + 1) ks)
-nodes_more ks i n r l e f g =
-    g ∙ ap (λ (x : Layout). deeper x.inside n) e ∙ ap (deeper (layout (get_or ks i 0)).inside) f ∙ sym (ap nodes_open (back_more i ks))
+module _ (ks : List ℕ) (i n r : ℕ) (l : Layout) (there : i < length ks) (laid : l ≡ layout (get_or ks i 0)) (before : n ≡ nodes_open (reverse (take i ks)))
+    (now : r ≡ deeper l.inside n) where
+  pub nodes_more : r ≡ nodes_open (reverse (take (i + 1) ks))
+  nodes_more =
+      now ∙ ap (λ (x : Layout). deeper x.inside n) laid ∙ ap (deeper (layout (get_or ks i 0)).inside) before ∙ sym (ap nodes_open (back_more ks i there))
 
-pub nodes_within : (ks : List ℕ) (i r : ℕ) → r ≡ nodes_open (back i ks) → r ≤ i
-nodes_within ks i r e = omega (arith, nodes_few (back i ks), back_length i ks, e)
+  pub nodes_within : r ≤ i + 1
+  nodes_within =
+      omega (arith, nodes_more, nodes_few (reverse (take (i + 1) ks)), length-reverse (take (i + 1) ks), length-take-le (i + 1) ks (omega arith))

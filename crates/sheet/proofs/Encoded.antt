@@ -191,18 +191,22 @@ pub cost_append : (xs ys : Rows) → cost (xs ++ ys) ≡ cost xs + cost ys
 cost_append [] ys = omega arith
 cost_append (x ∷ xs) ys = let e = cost_append xs ys in omega arith
 
+-- the rows of the bytes up to an offset are one more
+pub record More (n used to : ℕ) (b0 b1 : List ℕ) (r : Told) : Type 0 where
+  pub rows : rows_in (n + 1) (take to b1) ≡ rows_in n (take used b0) ++ (r ∷ [])
+  pub counted : length (rows_in (n + 1) (take to b1)) ≡ n + 1
+  pub costs : cost (rows_in (n + 1) (take to b1)) ≡ to
+
 -- a record written behind those that are there, up to an offset
-module _ (n used to : ℕ) (b0 b1 : List ℕ) (r : Told) (fits : used ≤ length b0) (counted : length (rows_in n (take used b0)) ≡ n)
-    (costs : cost (rows_in n (take used b0)) ≡ used) (up_to_lem : to ≡ used + cost_of r) (after : take to b1 ≡ take used b0 ++ encoded r)
-    (fa : SFits w32 r.a) (fb : SFits w32 r.b) where
-  pub rows_more : rows_in (n + 1) (take to b1) ≡ rows_in n (take used b0) ++ (r ∷ [])
-  rows_more =
-      ap₂ (λ (k : ℕ) (xs : List ℕ). rows_in k xs) (add-one n) after
-      ∙ rows_append n (take used b0) (encoded r) counted (costs ∙ sym (length-take-le used b0 fits))
-      ∙ ap (λ (xs : Rows). rows_in n (take used b0) ++ xs) (encoded_one r fa fb)
-
-  pub count_more : length (rows_in (n + 1) (take to b1)) ≡ n + 1
-  count_more = ap length rows_more ∙ omega (arith, length-append (rows_in n (take used b0)) (r ∷ []), counted)
-
-  pub cost_more : cost (rows_in (n + 1) (take to b1)) ≡ to
-  cost_more = ap cost rows_more ∙ omega (arith, cost_append (rows_in n (take used b0)) (r ∷ []), costs, up_to_lem)
+pub more : (n used to : ℕ) (b0 b1 : List ℕ) (r : Told) → used ≤ length b0 → length (rows_in n (take used b0)) ≡ n → cost (rows_in n (take used b0)) ≡ used
+    → to ≡ used + cost_of r → take to b1 ≡ take used b0 ++ encoded r → SFits w32 r.a → SFits w32 r.b → More n used to b0 b1 r
+more n used to b0 b1 r fits counted costs up_to after fa fb =
+    let m : rows_in (n + 1) (take to b1) ≡ rows_in n (take used b0) ++ (r ∷ []) =
+    ap₂ (λ (k : ℕ) (xs : List ℕ). rows_in k xs) (add-one n) after
+    ∙ rows_append n (take used b0) (encoded r) counted (costs ∙ sym (length-take-le used b0 fits))
+    ∙ ap (λ (xs : Rows). rows_in n (take used b0) ++ xs) (encoded_one r fa fb) in
+    record {
+      rows = m;
+      counted = ap length m ∙ omega (arith, length-append (rows_in n (take used b0)) (r ∷ []), counted);
+      costs = ap cost m ∙ omega (arith, cost_append (rows_in n (take used b0)) (r ∷ []), costs, up_to);
+    }

@@ -4,7 +4,8 @@ use Rattle.std.proofs.Common.{◌≡◌, ℕ, ◌+◌, ◌-◌, ◌<◌, ◌≤�
 use borrow.Rule.Slice.PartMut.{put_mid}
 use Rattle.grammar.specs.Grammar.{Rows, Row as Told}
 use Rattle.location.specs.declared.Row.{Row}
-use Rattle.location.specs.Answers.{seen, head_row, head_text, laid_over, Next}
+use Rattle.location.specs.Answers.{seen, head_row, head_text, laid_over}
+use Rattle.location.specs.Steps.{rest_of}
 use Rattle.grammar.specs.Sheet.{cost, cost_of}
 use Rattle.sheet.specs.Records.{with_text}
 use Rattle.sheet.proofs.Encoded.{cost_append}
@@ -29,13 +30,12 @@ copied_behind xs new t at n r h e told wrote =
     ∙ ap (take (at + length t)) (sym (append_assoc (take at xs) t (drop (length t) old ++ rest)))
     ∙ take_at (take at xs ++ t) (drop (length t) old ++ rest) (at + length t) k
 
--- the row at a mark with its text, and the rows at the next mark
-pub head_next : {M : Type 0} (f : M → Rows) (n : M) (ys : Rows) (row : Row) → Some row ≡ head_row ys → Next f ys (Some n)
-    → ys ≡ with_text row (head_text ys) ∷ f n
-head_next f n [] row e h = absurd h
-head_next f n (x ∷ xs) row e h =
+-- the row of a step with its text, and the rows after it
+pub step_first : (xs ys : Rows) (row : Row) → Some row ≡ head_row xs → ys ≡ xs → xs ≡ with_text row (head_text ys) ∷ rest_of xs
+step_first [] ys row e h = cc
+step_first (x ∷ xs) ys row e h =
     let s : row ≡ seen x = cc in
-    sym (ap₂ (λ (r : Row) (rs : Rows). with_text r x.text ∷ rs) s h)
+    sym (ap₂ (λ (r : Row) (t : List ℕ). with_text r t ∷ xs) s (ap head_text h))
 
 -- a row more is held, and one less is to come
 pub taken_over : (hs ys rest all new : Rows) (r : Told) → hs ++ ys ≡ all → ys ≡ r ∷ rest → new ≡ hs ++ (r ∷ []) → new ++ rest ≡ all

@@ -2,5 +2,5 @@ pub mod Backs
 pub mod Encoded
 pub mod Filled
 pub mod Placed
-pub mod Stands
 pub mod Judges
+pub mod Stands

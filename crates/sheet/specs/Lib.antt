@@ -2,5 +2,5 @@ pub mod Records
 pub mod Held
 pub mod Places
 pub mod Open
-pub mod Judged
+pub mod Parts
 pub mod Kept

@@ -1,15 +1,15 @@
-// The calls of a draft, and those that pass between it and a fair copy.
+// The calls of a draft.
 ghost use Rattle.std.specs.Prelude.{◌≡◌, [], ◌∷◌, ◌++◌, length as long};
 ghost use Rattle.grammar.specs.Reading.{reading};
-ghost use Rattle.grammar.specs.Sheet.{judge_load, judge_open, judge_number, judge_name, judge_close, row_of_numbers, row_of_name, one_less};
+ghost use Rattle.grammar.specs.Sheet.{judge_load, judge_row, judge_open, judge_number, judge_name, judge_close, row_of_numbers, row_of_name, one_less};
 ghost use Rattle.sheet.specs.Kept.{rows_held, rows_open, size_of, Holds, Loads};
+ghost use Rattle.sheet.specs.Parts.{has_kind, fits_kind, row_of};
 
-use crate::judge::{Asked, longest_text};
 use crate::kept::{Draft, Fair};
 use crate::opened::Opened;
+use crate::part::Part;
 use crate::store::Store;
-use fields::fits_numbers;
-use grammar::{SheetFault, layout_of};
+use grammar::SheetFault;
 use reader::Container;
 
 impl<'a> Draft<'a> {
@@ -19,11 +19,9 @@ impl<'a> Draft<'a> {
         ensures same { result.store.buffer.now ≡ buffer.old }
         ensures named { result.store.buffer.ghost_name ≡ buffer.entry.ghost_name }
     {
-        let store = Store::new(buffer);
-        let unused = Opened::none();
         Draft {
-            store,
-            opened: unused,
+            store: Store::new(buffer),
+            opened: Opened::none(),
         }
     }
 
@@ -35,10 +33,21 @@ impl<'a> Draft<'a> {
         ensures sized { size_of self.new ≡ size_of self.old }
     {
         let container = Container::open(bytes)?;
-        let open = self.opened.count;
-        self.store.replace(open, &container)?;
-        let closed = Opened::none();
-        self.opened = closed;
+        self.store.replace(self.opened.count(), &container)?;
+        self.opened.clear();
+        Ok(())
+    }
+
+    // Adds a row under the innermost open row, unless a condition refuses it.
+    fn add(&mut self, kind: u8, part: Part) -> Result<(), SheetFault>
+        ensures told { result ≡ judge_row (size_of self.old) (rows_held self.old) (rows_open self.old) (has_kind part.entry kind) (fits_kind part.entry kind) (row_of (long (rows_open self.old)) kind part.entry) }
+        ensures took { Holds self.old (rows_held self.old ++ (row_of (long (rows_open self.old)) kind part.entry ∷ [])) (rows_open self.old) self.new result }
+        ensures named { self.new.store.buffer.ghost_name ≡ self.old.store.buffer.ghost_name }
+        ensures sized { size_of self.new ≡ size_of self.old }
+    {
+        self.judge(kind, part)?;
+        let row = part.row(kind, self.opened.count());
+        self.store.put(row, &part.text());
         Ok(())
     }
 
@@ -49,17 +58,8 @@ impl<'a> Draft<'a> {
         ensures named { self.new.store.buffer.ghost_name ≡ self.old.store.buffer.ghost_name }
         ensures sized { size_of self.new ≡ size_of self.old }
     {
-        let layout = layout_of(kind);
-        let asked = Asked {
-            kind,
-            mine: !layout.inside.is_closed(),
-            fit: fits_numbers(layout.fields, a, b),
-            text: 0,
-        };
-        let opened = self.opened;
-        self.store.add(&opened, asked, a, b, 0, &[])?;
-        let opened = opened.with(kind);
-        self.opened = opened;
+        self.add(kind, Part::Holder { a, b })?;
+        self.opened.push(kind);
         Ok(())
     }
 
@@ -70,15 +70,7 @@ impl<'a> Draft<'a> {
         ensures named { self.new.store.buffer.ghost_name ≡ self.old.store.buffer.ghost_name }
         ensures sized { size_of self.new ≡ size_of self.old }
     {
-        let layout = layout_of(kind);
-        let asked = Asked {
-            kind,
-            mine: layout.ends_there(),
-            fit: fits_numbers(layout.fields, a, b),
-            text: 0,
-        };
-        let opened = self.opened;
-        self.store.add(&opened, asked, a, b, 0, &[])
+        self.add(kind, Part::Numbers { a, b })
     }
 
     /// Adds a text in a language.
@@ -88,15 +80,7 @@ impl<'a> Draft<'a> {
         ensures named { self.new.store.buffer.ghost_name ≡ self.old.store.buffer.ghost_name }
         ensures sized { size_of self.new ≡ size_of self.old }
     {
-        let layout = layout_of(kind);
-        let asked = Asked {
-            kind,
-            mine: layout.is_text(),
-            fit: text.len() <= longest_text(layout.holder),
-            text: text.len(),
-        };
-        let opened = self.opened;
-        self.store.add(&opened, asked, 0, 0, language, text)
+        self.add(kind, Part::Name { language, text })
     }
 
     /// Closes the innermost open row.
@@ -105,15 +89,10 @@ impl<'a> Draft<'a> {
         ensures took { Holds self.old (rows_held self.old) (one_less (rows_open self.old)) self.new result }
         ensures same { self.new.store ≡ self.old.store }
     {
-        let opened = self.opened;
-        if opened.count == 0 {
-            return Err(SheetFault::NothingOpen {
-                rows: usize::from(self.store.count),
-                open: 0,
-            });
-        }
-        let opened = opened.without();
-        self.opened = opened;
+        self.opened.pop().ok_or(SheetFault::NothingOpen {
+            rows: usize::from(self.store.count),
+            open: 0,
+        })?;
         Ok(())
     }
 
@@ -124,16 +103,14 @@ impl<'a> Draft<'a> {
         ensures named { self.new.store.buffer.ghost_name ≡ self.old.store.buffer.ghost_name }
     {
         self.store.clear();
-        let opened = Opened::none();
-        self.opened = opened;
+        self.opened.clear();
     }
 
     /// Closes whatever is open, and gives the fair copy.
     pub fn finish(self) -> Fair<'a>
         ensures { result.store ≡ self.entry.store }
     {
-        let Draft { store, opened: _ } = self;
-        Fair { store }
+        Fair { store: self.store }
     }
 
     /// Gives the buffer back.
@@ -141,41 +118,6 @@ impl<'a> Draft<'a> {
         ensures same { result.now ≡ self.entry.store.buffer.now }
         ensures named { result.ghost_name ≡ self.entry.store.buffer.ghost_name }
     {
-        let Draft { store, opened: _ } = self;
-        let Store {
-            buffer: given,
-            used: _,
-            count: _,
-        } = store;
-        given
-    }
-}
-
-impl<'a> Fair<'a> {
-    /// The same rows as a draft again, with nothing open.
-    pub fn reopen(self) -> Draft<'a>
-        ensures rows { result.store ≡ self.entry.store }
-        ensures closed { rows_open result ≡ [] }
-    {
-        let Fair { store } = self;
-        let nothing = Opened::none();
-        Draft {
-            store,
-            opened: nothing,
-        }
-    }
-
-    /// Gives the buffer back.
-    pub fn give_up(self) -> &'a mut [u8]
-        ensures same { result.now ≡ self.entry.store.buffer.now }
-        ensures named { result.ghost_name ≡ self.entry.store.buffer.ghost_name }
-    {
-        let Fair { store } = self;
-        let Store {
-            buffer: lent,
-            used: _,
-            count: _,
-        } = store;
-        lent
+        self.store.into_buffer()
     }
 }

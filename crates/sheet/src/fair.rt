@@ -1,19 +1,33 @@
-// A fair copy is a location: its marks are places among its records.
-ghost use Rattle.std.specs.Prelude.{◌≡◌, ◌≤◌, length};
+// The calls of a fair copy, which is a location: its marks are places among its records.
+ghost use Rattle.std.specs.Prelude.{◌≡◌, []};
+ghost use Rattle.sheet.specs.Kept.{rows_open};
 ghost use Rattle.sheet.specs.Held.{held};
 ghost use Rattle.sheet.specs.Places.{records_of, rows_at};
 
-use crate::kept::Fair;
-use crate::place::{Place, byte_of, copy_of, here_at, next_at, row_at, text_at};
-use crate::store::Store;
-use location::{Location, Row};
+use crate::kept::{Draft, Fair};
+use crate::opened::Opened;
+use crate::place::Place;
+use location::{Location, Row, copy_front};
 
-// The records of a store.
-fn records<'s>(store: &'s Store<'_>) -> &'s [u8]
-    requires { store.now.used ≤ length store.now.buffer.now }
-    ensures { result.now ≡ records_of store.now }
-{
-    &store.buffer[0..store.used]
+impl<'a> Fair<'a> {
+    /// The same rows as a draft again, with nothing open.
+    pub fn reopen(self) -> Draft<'a>
+        ensures rows { result.store ≡ self.entry.store }
+        ensures closed { rows_open result ≡ [] }
+    {
+        Draft {
+            store: self.store,
+            opened: Opened::none(),
+        }
+    }
+
+    /// Gives the buffer back.
+    pub fn give_up(self) -> &'a mut [u8]
+        ensures same { result.now ≡ self.entry.store.buffer.now }
+        ensures named { result.ghost_name ≡ self.entry.store.buffer.ghost_name }
+    {
+        self.store.into_buffer()
+    }
 }
 
 impl<'a> Location for Fair<'a> {
@@ -31,22 +45,22 @@ impl<'a> Location for Fair<'a> {
     }
 
     fn here(&self, m: Place) -> bool {
-        here_at(records(&self.store), m)
+        m.here(self.store.records())
     }
 
     fn row(&self, m: Place) -> Option<Row> {
-        row_at(records(&self.store), m)
+        m.row(self.store.records())
     }
 
     fn byte(&self, m: Place, i: usize) -> Option<u8> {
-        byte_of(text_at(records(&self.store), m), i)
+        m.text(self.store.records()).get(i).copied()
     }
 
     fn next(&self, m: Place) -> Option<Place> {
-        next_at(records(&self.store), m)
+        m.next(self.store.records())
     }
 
     fn copy_text(&self, m: Place, out: &mut [u8]) -> bool {
-        copy_of(text_at(records(&self.store), m), out)
+        copy_front(m.text(self.store.records()), out)
     }
 }

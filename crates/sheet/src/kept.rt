@@ -1,7 +1,5 @@
-// The two forms of a sheet. What holds of its store and of the rows that are open holds of every value.
-ghost use Rattle.std.specs.Prelude.{◌≡◌, ◌≤◌, true, length};
-ghost use Rattle.grammar.specs.Sheet.{cost};
-ghost use Rattle.sheet.specs.Held.{held};
+// The two forms of a sheet.
+ghost use Rattle.std.specs.Prelude.{◌≡◌, true};
 ghost use Rattle.sheet.specs.Open.{kinds_open, standing};
 
 use crate::opened::Opened;
@@ -12,10 +10,6 @@ use crate::store::Store;
 pub struct Draft<'a> {
     pub(crate) store: Store<'a>,
     pub(crate) opened: Opened,
-    ghost fits: { store.used ≤ length store.buffer.now },
-    ghost counted: { length (held store) ≡ store.count },
-    ghost costs: { cost (held store) ≡ store.used },
-    ghost few: { store.count ≤ 250 },
     ghost stands: { standing (kinds_open opened) ≡ true },
 }
 
@@ -23,8 +17,4 @@ pub struct Draft<'a> {
 #[derive(Drop)]
 pub struct Fair<'a> {
     pub(crate) store: Store<'a>,
-    ghost fits: { store.used ≤ length store.buffer.now },
-    ghost counted: { length (held store) ≡ store.count },
-    ghost costs: { cost (held store) ≡ store.used },
-    ghost few: { store.count ≤ 250 },
 }

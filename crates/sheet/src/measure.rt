@@ -3,7 +3,7 @@ ghost use Rattle.std.specs.Prelude.{◌≡◌};
 ghost use Rattle.sheet.specs.Records.{measured};
 
 use crate::record::HEAD;
-use location::Location;
+use location::{Location, rows_of};
 
 // The most rows that a sheet holds.
 pub(crate) const MOST_ROWS: u8 = 250;
@@ -12,21 +12,14 @@ pub(crate) const MOST_ROWS: u8 = 250;
 pub(crate) fn measure<L: Location>(l: &L) -> Option<usize>
     ensures { result ≡ measured (L.Location.whole l.now) }
 {
-    let mut at = l.first();
     let mut count: u8 = 0;
     let mut bytes: usize = 0;
-    while let Some(row) = l.row(at) {
+    for row in rows_of(l) {
         if count == MOST_ROWS {
             return None;
         }
-        match l.next(at) {
-            Some(next) => {
-                count += 1;
-                bytes += HEAD + usize::from(row.length);
-                at = next;
-            }
-            None => break,
-        }
+        count += 1;
+        bytes += HEAD + usize::from(row.length);
     }
     Some(bytes)
 }

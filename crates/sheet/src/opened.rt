@@ -1,18 +1,20 @@
 // The kinds of the rows that are open on a draft.
-ghost use Rattle.std.specs.Prelude.{◌≡◌, ◌<◌, ◌≤◌, [], ◌∷◌};
-ghost use Rattle.grammar.specs.Sheet.{innermost, nodes_open, one_less};
+ghost use Rattle.std.specs.Prelude.{◌≡◌, ◌<◌, [], ◌∷◌, length as long, IfSome, IfNone, nat_lt};
+ghost use Rattle.grammar.specs.Format.{layout};
+ghost use Rattle.grammar.specs.Grammar.{deeper};
+ghost use Rattle.grammar.specs.Sheet.{innermost, nodes_open, may_stand};
 ghost use Rattle.sheet.specs.Open.{kinds_open};
 
+use arrayvec::ArrayVec;
 use grammar::{Spot, layout_of};
 
 // The most rows that are open at once: eight nodes, and inside each one row more.
-pub(crate) const MOST_OPEN: usize = 16;
+const MOST_OPEN: usize = 16;
 
-// So many kinds count, the outermost first.
-#[derive(Clone, Copy)]
+// The kinds, the outermost first.
+#[derive(Drop)]
 pub(crate) struct Opened {
-    pub(crate) kinds: [u8; MOST_OPEN],
-    pub(crate) count: u8,
+    kinds: ArrayVec<u8, MOST_OPEN>,
 }
 
 impl Opened {
@@ -20,54 +22,73 @@ impl Opened {
         ensures { kinds_open result ≡ [] }
     {
         Opened {
-            kinds: [0; MOST_OPEN],
-            count: 0,
+            kinds: ArrayVec::new(),
         }
+    }
+
+    // How many rows are open.
+    pub(crate) fn count(&self) -> u8
+        ensures { result ≡ long (kinds_open self.now) }
+    {
+        self.kinds.len() as u8
     }
 
     // Where the next row would stand.
-    pub(crate) fn spot(&self) -> Spot
-        requires { self.now.count ≤ 16 }
+    fn spot(&self) -> Spot
         ensures { result ≡ innermost (kinds_open self.now) }
     {
-        if self.count == 0 {
-            return Spot::Descriptions;
-        }
-        layout_of(self.kinds[usize::from(self.count - 1)]).inside
+        self.kinds
+            .as_slice()
+            .last()
+            .map_or(Spot::Descriptions, |kind| layout_of(*kind).inside)
     }
 
     // How many of the rows are nodes.
-    pub(crate) fn nodes(&self) -> u8
-        requires { self.now.count ≤ 16 }
+    fn nodes(&self) -> u8
         ensures { result ≡ nodes_open (kinds_open self.now) }
     {
         let mut nodes: u8 = 0;
-        for i in 0..usize::from(self.count) {
-            nodes = layout_of(self.kinds[i]).inside.deeper(nodes) as u8;
+        let kinds = self.kinds.as_slice();
+        for kind in kinds {
+            nodes = layout_of(*kind).inside.deeper(nodes) as u8;
         }
         nodes
     }
 
-    // One row more is open, inside the others.
-    pub(crate) fn with(self, kind: u8) -> Opened
-        requires { self.count < 16 }
-        ensures { kinds_open result ≡ kind ∷ kinds_open self }
+    // A row of a kind may stand in the innermost row.
+    pub(crate) fn may_hold(&self, kind: u8) -> bool
+        ensures { result ≡ may_stand (kinds_open self.now) kind }
     {
-        let mut kinds = self.kinds;
-        kinds[usize::from(self.count)] = kind;
-        Opened {
-            kinds,
-            count: self.count + 1,
-        }
+        self.spot().is_kind(layout_of(kind).id, kind)
     }
 
-    // The innermost row is open no more.
-    pub(crate) fn without(self) -> Opened
-        requires { 0 < self.count }
-        ensures { kinds_open result ≡ one_less (kinds_open self) }
+    // A row of a kind would be a ninth node inside eight.
+    pub(crate) fn is_ninth(&self, kind: u8) -> bool
+        ensures { result ≡ nat_lt 8 (deeper (layout kind).inside (nodes_open (kinds_open self.now))) }
     {
-        let mut opened = self;
-        opened.count -= 1;
-        opened
+        layout_of(kind).inside.deeper(self.nodes()) > 8
+    }
+
+    // One row more is open, inside the others.
+    pub(crate) fn push(&mut self, kind: u8)
+        requires { long (kinds_open self.old) < 16 }
+        ensures { kinds_open self.new ≡ kind ∷ kinds_open self.old }
+    {
+        self.kinds.push(kind);
+    }
+
+    // The innermost row is open no more; gives its kind.
+    pub(crate) fn pop(&mut self) -> Option<u8>
+        ensures some { IfSome result (λ kind. kinds_open self.old ≡ kind ∷ kinds_open self.new) }
+        ensures none { IfNone result ((kinds_open self.old ≡ []) × (self.new ≡ self.old)) }
+    {
+        self.kinds.pop()
+    }
+
+    // No row is open any more.
+    pub(crate) fn clear(&mut self)
+        ensures { kinds_open self.new ≡ [] }
+    {
+        self.kinds.clear();
     }
 }

@@ -1,12 +1,46 @@
 // Rows as records of bytes: twelve of each before its text, and then the text.
-ghost use Rattle.std.specs.Prelude.{◌≡◌, ℕ, ◌+◌, ◌<◌, ◌≤◌, List, ◌++◌, length as long, take, Some};
-ghost use Rattle.location.specs.Answers.{head_row, head_text};
+ghost use Rattle.std.specs.Prelude.{◌≡◌, ℕ, ◌+◌, ◌≤◌, List, ◌++◌, length as long, take, if◌then◌else◌, nat_le};
+ghost use Rattle.location.specs.Answers.{head_text, laid_over};
 ghost use Rattle.sheet.specs.Records.{head_of, encoded, with_text};
 
-use location::{Location, Row};
+use location::{Location, Row, copy_front};
 
 // The bytes of a record before its text.
 pub(crate) const HEAD: usize = 12;
+
+// What a text can be copied from.
+pub(crate) trait Text {
+    // The text.
+    ghost bytes: { Self → List ℕ };
+
+    // Copies the text to the front of `out`, if it fits.
+    fn copy_to(&self, out: &mut [u8]) -> bool
+        ensures fits { result ≡ nat_le (long (bytes self.now)) (long out.old) }
+        ensures wrote { out.new ≡ (if result then laid_over (bytes self.now) out.old else out.old) };
+}
+
+impl<'t> Text for &'t [u8] {
+    ghost bytes = { λ s. s.now };
+
+    fn copy_to(&self, out: &mut [u8]) -> bool {
+        copy_front(self, out)
+    }
+}
+
+// The text of the row at a mark of a location.
+#[derive(Drop)]
+pub(crate) struct There<'l, L: Location> {
+    pub(crate) l: &'l L,
+    pub(crate) m: L::Mark,
+}
+
+impl<'l, L: Location> Text for There<'l, L> {
+    ghost bytes = { λ s. head_text (L.Location.rows s.l.now s.m) };
+
+    fn copy_to(&self, out: &mut [u8]) -> bool {
+        self.l.copy_text(self.m, out)
+    }
+}
 
 // The bytes before a row's text, of which the last is its length.
 fn head(row: Row) -> [u8; 12]
@@ -30,31 +64,12 @@ fn head(row: Row) -> [u8; 12]
     ]
 }
 
-// Writes bytes at an offset.
-fn put_bytes(buffer: &mut [u8], at: usize, bytes: &[u8])
-    requires { at + long bytes.now ≤ long buffer.old }
-    ensures { take (at + long bytes.now) buffer.new ≡ take at buffer.old ++ bytes.now }
-{
-    let part = &mut buffer[at..at + bytes.len()];
-    part.copy_from_slice(bytes);
-}
-
 // Writes a row and its text as a record at an offset.
-pub(crate) fn lay(buffer: &mut [u8], at: usize, row: Row, text: &[u8])
-    requires sized { row.length ≡ long text.now }
-    requires room { at + (12 + long text.now) ≤ long buffer.old }
-    ensures { take (at + (12 + long text.now)) buffer.new ≡ take at buffer.old ++ encoded (with_text row text.now) }
-{
-    put_bytes(buffer, at, &head(row));
-    put_bytes(buffer, at + HEAD, text);
-}
-
-// Writes the row at a mark of a location as a record at an offset.
-pub(crate) fn lay_from<L: Location>(buffer: &mut [u8], at: usize, l: &L, m: L::Mark, row: Row)
-    requires there { Some row ≡ head_row (L.Location.rows l.now m) }
+pub(crate) fn lay<T: Text>(buffer: &mut [u8], at: usize, row: Row, text: &T)
+    requires sized { row.length ≡ long (T.bytes text.now) }
     requires room { at + (12 + row.length) ≤ long buffer.old }
-    ensures { take (at + (12 + row.length)) buffer.new ≡ take at buffer.old ++ encoded (with_text row (head_text (L.Location.rows l.now m))) }
+    ensures { take (at + (12 + row.length)) buffer.new ≡ take at buffer.old ++ encoded (with_text row (T.bytes text.now)) }
 {
-    put_bytes(buffer, at, &head(row));
-    l.copy_text(m, &mut buffer[at + HEAD..]);
+    buffer[at..at + HEAD].copy_from_slice(&head(row));
+    text.copy_to(&mut buffer[at + HEAD..]);
 }

@@ -1,33 +1,18 @@
-use Rattle.std.proofs.Common.{not, length, ap, ◌∙◌, w32, to_z, of_z}
-use Rattle.grammar.specs.declared.table.Layout.{Layout}
-use Rattle.grammar.specs.Reading.{closed}
-use Rattle.grammar.specs.Sheet.{row_of_numbers}
-use Rattle.sheet.specs.Held.{held}
-use Rattle.sheet.specs.Open.{kinds_open, standing}
-use Rattle.sheet.proofs.Stands.{more_stands, more_few}
+use Rattle.std.proofs.Common.{◌∷◌, length, sym, ap, ◌∙◌, arith, w32, to_z, of_z}
+use Rattle.sheet.specs.declared.part.Part.{Part}
+use Rattle.sheet.specs.declared.part.Part.TheVariants.{Holder}
+use Rattle.sheet.specs.Kept.{rows_held, rows_open, size_of}
+use Rattle.sheet.specs.Parts.{has_kind, fits_kind, row_of}
+use Rattle.sheet.proofs.Judges.{passes}
+use Rattle.sheet.proofs.Stands.{more_stands, open_few}
 use Rattle.sheet.proofs.kept.Draft.open.Goals as goal
 
-pub with-opened-requires : goal.with-opened-requires
-with-opened-requires c =
+pub push-requires : goal.push-requires
+push-requires c =
     let d = c.args.self.now in
-    let row = row_of_numbers (length (kinds_open d.opened)) c.args.kind (to_z w32 (of_z w32 c.args.a)) (to_z w32 (of_z w32 c.args.b)) in
-    let mine = ap not (c.is_closed.ensures ∙ ap (λ (l : Layout). closed l.inside) c.layout_of-layout.ensures) in
-    more_few d.opened c.args.kind
-    (more_stands (length d.store.buffer.now) (held d.store) (kinds_open d.opened) (not c.is_closed.result) c.fits_numbers.result row
-    c.add.result c.in_ok-add.field-0 mine c.in_ok-add.was c.add.ensures.told d.stands)
-
-pub invariant_of-self-2 : goal.invariant_of-self-2
-invariant_of-self-2 c =
-    let d = c.args.self.now in
-    let s = c.add.ensures.sound in
-    let row = row_of_numbers (length (kinds_open d.opened)) c.args.kind (to_z w32 (of_z w32 c.args.a)) (to_z w32 (of_z w32 c.args.b)) in
-    let mine = ap not (c.is_closed.ensures ∙ ap (λ (l : Layout). closed l.inside) c.layout_of-layout.ensures) in
-    let stands = more_stands (length d.store.buffer.now) (held d.store) (kinds_open d.opened) (not c.is_closed.result) c.fits_numbers.result row
-    c.add.result c.in_ok-add.field-0 mine c.in_ok-add.was c.add.ensures.told d.stands in
-    record {
-      fits = s.fits;
-      counted = s.counted;
-      costs = s.costs;
-      few = s.few;
-      stands = ap standing c.with-opened.ensures ∙ stands;
-    }
+    let k = c.args.kind in
+    let part : Part = Holder (to_z w32 (of_z w32 c.args.a)) (to_z w32 (of_z w32 c.args.b)) in
+    let row = row_of (length (rows_open d)) k part in
+    let p = passes (size_of d) (rows_held d) (rows_open d) (has_kind part k) (fits_kind part k) row (sym c.add.ensures.told ∙ c.in_ok-add.was) in
+    let stands = more_stands (size_of d) (rows_held d) (rows_open d) (fits_kind part k) row p d.stands in
+    omega (arith, open_few (k ∷ rows_open d) stands, ap length c.in_ok-add.ensures.took.1)

@@ -1,7 +1,6 @@
-use Rattle.std.proofs.Common.{◌≡◌}
+use Rattle.std.proofs.Common.{◌≡◌, take, reverse}
 use Rattle.grammar.specs.Sheet.{nodes_open}
-use Rattle.sheet.specs.Open.{back}
 use Rattle.sheet.proofs.opened.Opened.nodes.Given as goal
 
-abbrev pub invariant-loop-i : goal.invariant-loop-i
-invariant-loop-i l = l.nodes ≡ nodes_open (back l.i l.self.kinds)
+abbrev pub invariant-loop-kind : goal.invariant-loop-kind
+invariant-loop-kind l = l.nodes ≡ nodes_open (reverse (take l.kind-index l.kinds))

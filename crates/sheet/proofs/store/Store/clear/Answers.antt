@@ -1,14 +1,7 @@
-use Rattle.std.proofs.Common.{[], length, refl, ap, arith}
+use Rattle.std.proofs.Common.{[], length, ap, arith}
 use Rattle.grammar.specs.Sheet.{cost}
 use Rattle.sheet.proofs.Encoded.{rows_none}
 use Rattle.sheet.proofs.store.Store.clear.Goals as goal
 
-pub returns : goal.returns
-returns c =
-    let e = rows_none [] in
-    record {
-      sound = record { fits = omega arith; counted = ap length e; costs = ap cost e; few = omega arith };
-      blank = e;
-      same = refl;
-      named = refl;
-    }
+pub invariant_of-self : goal.invariant_of-self
+invariant_of-self c = record { fits = omega arith; counted = ap length (rows_none []); costs = ap cost (rows_none []); few = omega arith }

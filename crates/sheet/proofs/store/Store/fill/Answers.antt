@@ -1,39 +1,58 @@
-use Rattle.std.proofs.Common.{ℕ, ◌+◌, ◌≤◌, length, ap, ◌∙◌, arith}
+use Rattle.std.proofs.Common.{◌≡◌, [], ◌∷◌, ◌+◌, ◌++◌, ◌≤◌, length, sym, ap, ◌∙◌, arith, rules}
 use Rattle.grammar.specs.Grammar.{Rows, Row as Told}
-use Rattle.location.specs.Answers.{head_text}
 use Rattle.grammar.specs.Sheet.{cost_of}
+use Rattle.location.specs.Answers.{head_row, head_text}
+use Rattle.location.specs.Steps.{rest_of}
 use Rattle.sheet.specs.Records.{with_text}
 use Rattle.sheet.specs.Held.{held}
-use Rattle.sheet.proofs.Filled.{head_next, head_length, taken_over, place_left, room_left}
+use Rattle.sheet.proofs.Filled.{head_length, step_first, taken_over, place_left, room_left}
 use Rattle.sheet.proofs.store.Store.fill.Goals as goal
 
-pub put_from-requires : goal.put_from-requires
-put_from-requires g c =
-    let l = c.loop-row in
-    let f = g.L.Location.rows c.args.l.now in
-    let ys : Rows = f l.at in
-    let row = c.in-Some.row in
-    let r : Told = with_text row (head_text ys) in
-    let e = head_next f c.in-Some-next.next ys row c.in-Some.ensures c.in-Some-next.ensures in
-    let s = l.invariant.1 in
-    let size : ℕ = length l.self.buffer.now in
-    let k : l.self.used + cost_of r ≤ size =
-    room_left (held l.self) ys _ _ r l.invariant.0 e l.self.used size s.costs (omega (arith, l.invariant.3, c.requires.room, ap length c.clear.ensures.same)) in
+pub put-requires : goal.put-requires
+put-requires g c =
+    let f = g.L.Location.rows in
+    let i = c.loop-step.invariant in
+    let to = c.loop-step.step-iterator in
+    let s = c.loop-step.self in
+    let p = c.in-Some.step in
+    let n = c.in-Some.ensures.steps in
+    let xs : Rows = f to.below.now to.at in
+    let ys : Rows = f c.args.l.now p.mark in
+    let h : ys ≡ xs = ap (λ l. f l p.mark) (sym i.2) ∙ n.1.0 in
+    let r : Told = with_text p.row (head_text ys) in
+    let all : Rows = g.L.Location.whole c.args.l.now in
+    let e = step_first xs ys p.row n.0 h in
+    let long = head_length ys p.row (n.0 ∙ ap head_row (sym h)) in
+    let k : s.used + cost_of r ≤ length s.buffer.now =
+    room_left (held s) xs (rest_of xs) all r i.3 e s.used (length s.buffer.now) s.costs (omega (arith, i.5, c.requires.room, ap length c.clear.ensures.same)) in
     record {
-      sound = s;
-      there = c.in-Some.ensures;
-      few = place_left (held l.self) ys _ _ r l.invariant.0 e l.self.count 250 s.counted c.requires.few;
-      room = omega (arith, k, head_length ys row c.in-Some.ensures);
+      sized = long;
+      few = place_left (held s) xs (rest_of xs) all r i.3 e s.count 250 s.counted c.requires.few;
+      room = omega (arith, k, long);
     }
 
-pub loop-row-preserved : goal.loop-row-preserved
-loop-row-preserved g c =
-    let l = c.loop-row in
-    let f = g.L.Location.rows c.args.l.now in
-    let ys : Rows = f l.at in
-    let e = head_next f c.in-Some-next.next ys c.in-Some.row c.in-Some.ensures c.in-Some-next.ensures in (
-      taken_over (held l.self) ys _ _ _ _ l.invariant.0 e c.put_from.ensures.took,
-      c.put_from.ensures.sound,
-      c.put_from.ensures.named ∙ l.invariant.2,
-      c.put_from.ensures.sized ∙ l.invariant.3,
+pub loop-step-preserved : goal.loop-step-preserved
+loop-step-preserved g c =
+    let f = g.L.Location.rows in
+    let i = c.loop-step.invariant in
+    let to = c.loop-step.step-iterator in
+    let p = c.in-Some.step in
+    let n = c.in-Some.ensures.steps in
+    let xs : Rows = f to.below.now to.at in
+    let ys : Rows = f c.args.l.now p.mark in
+    let h : ys ≡ xs = ap (λ l. f l p.mark) (sym i.2) ∙ n.1.0 in
+    let all : Rows = g.L.Location.whole c.args.l.now in
+    let r : Told = with_text p.row (head_text ys) in
+    let e = step_first xs ys p.row n.0 h in
+    let hs : Rows = held c.put.new.self in
+    let rest : Rows = f c.next.new.self.below.now c.next.new.self.at in
+    let same : rest ≡ rest_of xs = n.2 in
+    let took : hs ≡ held c.loop-step.self ++ (r ∷ []) = c.put.ensures.took in
+    let whole : hs ++ rest ≡ all = ap (λ (rs : Rows). hs ++ rs) same ∙ taken_over (held c.loop-step.self) xs (rest_of xs) all hs r i.3 e took in (
+      tt,
+      tt,
+      n.3 ∙ i.2,
+      whole,
+      search rules,
+      search rules,
     )
