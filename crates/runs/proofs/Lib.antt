@@ -1,3 +1,4 @@
 pub mod Scripted
 pub mod Parted
 pub mod Running
+pub mod Fitting

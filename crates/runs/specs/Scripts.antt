@@ -1,5 +1,6 @@
 -- A script's run: the log that its calls fix, and what it leaves in the answers and in the output.
-use Rattle.std.specs.Prelude.{◌≡◌, ℕ, ◌+◌, Bool, true, false, ◌&&◌, List, [], ◌∷◌, ◌++◌, map, length, take, drop, nat_le}
+use Rattle.std.specs.Prelude.{◌≡◌, ℕ, ◌+◌, Bool, true, false, ◌&&◌, List, [], ◌∷◌, ◌++◌, map, length, take, drop, nat_le, Ok, Err, Result}
+use Rattle.grammar.specs.declared.fault.SendFault.{SendFault}
 use Rattle.grammar.specs.Grammar.{Rows}
 use Rattle.grammar.specs.Reading.{reading}
 use Rattle.grammar.specs.Sheet as S
@@ -58,6 +59,11 @@ shown (sent bytes d) = Sent (length bytes) d
 shown (refused f) = Refused f
 shown (not_sent f) = NotSent f
 shown not_now = NotNow
+
+-- the same of a send by what was answered to it
+abbrev pub shown_of_send : Result (ℕ × ℕ) SendFault → Answer
+shown_of_send (Ok (n, d)) = Sent n d
+shown_of_send (Err f) = NotSent f
 
 abbrev pub shown_in : Entry → Answer
 shown_in e = shown e.answer

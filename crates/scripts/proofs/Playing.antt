@@ -1,7 +1,12 @@
 -- What stands in the output of a script's run, room by room.
 -- Assumes nothing.
-use Rattle.std.proofs.Common.{◌≡◌, ℕ, ◌+◌, ◌<◌, ◌≤◌, Bool, true, false, ◌&&◌, leb, List, [], ◌∷◌, ◌++◌, map, length, get_or, take, drop, sym, refl, ap, ◌∙◌, arith, leb-true}
-use Rattle.std.proofs.lemmas.List.{append-nil, length-append, length-take-le, length-drop, length-map, take-take, take_at, take_all, drop_at, drop_all, drop-take, drop_more}
+use Rattle.std.proofs.Common.{◌≡◌, ℕ, ◌+◌, ◌≤◌, Bool, true, ◌&&◌, Bor, Iter, List, [], ◌∷◌, ◌++◌, map, length, take, drop, Some, None, Option, IfSome, ◌⊎◌, inl, inr, sym, refl, ap, ◌∙◌, subst, ap₂, arith}
+use Rattle.std.proofs.lemmas.List.{append-nil, length-append, length-take-le, length-drop, length-map, take-take, take_at, drop_at, drop_all, drop-take, drop-drop}
+use Rattle.std.specs.Iterator.{Yields}
+use Rattle.std.specs.List.{FoldsTo}
+use Rattle.std.specs.Option.{MatchOption}
+use Rattle.std.proofs.iter.Yields.{fronts}
+use borrow.Author.Tests.{le-leb}
 use Rattle.grammar.specs.Sheet as S
 use Rattle.grammar.specs.Sheet.{done, sent, refused, not_sent, not_now, Entry, Log, held, room_in, BestSent, Lawful}
 use Rattle.runs.specs.declared.script.Answer.{Answer}
@@ -12,9 +17,6 @@ use Rattle.listing.specs.Listed.{listed}
 use Rattle.scripts.specs.declared.asked.Asked.{Asked}
 use Rattle.scripts.specs.Answered.{answer_text}
 use Rattle.scripts.specs.Played.{asked_call, bytes_in, answer_lines, sent_size, lines_from, Played}
-
-pub take_none : (n : ℕ) → take {A = ℕ} n [] ≡ []
-take_none n = take_all n [] (omega arith)
 
 -- what each entry sent fits its room
 abbrev pub Roomy : List Entry → Type 0
@@ -105,28 +107,68 @@ lines_are at (e ∷ es) out h r =
     ap (λ (bs : List ℕ). answer_text (shown x) bs ++ lines_from then (map call_in es) (map shown_in es) all) there
     ∙ ap (λ (ls : List ℕ). answer_text (shown x) (bytes_in x) ++ ls) (lines_are then es new (omega (arith, n, h)) r.1)
 
--- the rooms from a call on are its own and those behind it
-pub rooms_here : (script : List Asked) (i : ℕ) (d : Asked) → i < length script
-    → rooms (map asked_call (drop i script)) ≡ room_in (asked_call (get_or script i d)) + rooms (map asked_call (drop (i + 1) script))
-rooms_here script i d h = ap (λ (xs : List Asked). rooms (map asked_call xs)) (drop_more script i d h)
+-- the sum of the rooms of the calls that a fold has passed, each of which adds its own
+summed : {F : Type 0} (Turn : F × ℕ → Bor Asked → F × ℕ → Type 0)
+    → ((p : F × ℕ) (x : Bor Asked) (q : F × ℕ) → Turn p x q → q.1 ≡ p.1 + room_in (asked_call x.now))
+    → (xs : List (Bor Asked)) (s t : Iter Asked) (p q : F × ℕ) → Yields fronts s xs t → FoldsTo {P = F × ℕ} Turn p xs q
+    → p.1 + rooms (map asked_call s.rest.now) ≡ q.1 + rooms (map asked_call t.rest.now)
+summed Turn turns [] s t p q y f =
+    let e = ap (λ (i : Iter Asked). rooms (map asked_call i.rest.now)) y in
+    let n = ap (λ (w : _ × ℕ). w.1) f in
+    omega (arith, e, n)
+summed Turn turns (x ∷ xs) s t p q y f =
+    let e = ap (λ (ys : List Asked). rooms (map asked_call ys)) y.1 in
+    let n = turns p x f.0 f.1 in
+    let r = summed Turn turns xs y.0 t f.0 q y.2 f.2 in
+    omega (arith, e, n, r)
 
-pub rooms_none : (script : List Asked) (i : ℕ) → length script ≤ i → rooms (map asked_call (drop i script)) ≡ 0
-rooms_none script i h = ap (λ (xs : List Asked). rooms (map asked_call xs)) (drop_all i script h)
+none_left : (script : List Asked) → length script ≡ 0 → rooms (map asked_call script) ≡ 0
+none_left [] e = omega arith
+none_left (x ∷ xs) e = absurd (omega arith)
 
--- the lines from a call on are its own and those behind it
-pub lines_here : (at : ℕ) (script : List Asked) (answers : List Answer) (out : List ℕ) (i : ℕ) (d : Asked) (x : Answer) → i < length script → i < length answers
-    → lines_from at (map asked_call (drop i script)) (drop i answers) out
-    ≡ answer_text (get_or answers i x) (take (sent_size (get_or answers i x)) (drop at out))
-    ++ lines_from (at + room_in (asked_call (get_or script i d))) (map asked_call (drop (i + 1) script)) (drop (i + 1) answers) out
+-- what the fold gives is the sum of all rooms
+pub all_summed : {F : Type 0} (Turn : F × ℕ → Bor Asked → F × ℕ → Type 0)
+    → ((p : F × ℕ) (x : Bor Asked) (q : F × ℕ) → Turn p x q → q.1 ≡ p.1 + room_in (asked_call x.now))
+    → (r : Option ℕ) (xs : List (Bor Asked)) (o : Option (Bor Asked)) (s t u : Iter Asked) (script : List Asked) (f : F) (q : F × ℕ) (Broke : Bor Asked → Type 0)
+    → s.rest.now ≡ script → Yields fronts s xs t → fronts t o u → FoldsTo {P = F × ℕ} Turn (f, 0) xs q → MatchOption o (r ≡ Some q.1) Broke
+    → ((x : Bor Asked) → Broke x → r ≡ None) → IfSome r (λ n. n ≡ rooms (map asked_call script))
+all_summed Turn turns r xs None s t u script f q Broke i y z k m breaks =
+    let a = summed Turn turns xs s t (f, 0) q y k in
+    let b = none_left t.rest.now z.0 in
+    let e = ap (λ (ys : List Asked). rooms (map asked_call ys)) i in
+    let n : q.1 ≡ rooms (map asked_call script) = omega (arith, a, b, e) in
+    subst (λ (o : Option ℕ). IfSome o (λ n. n ≡ rooms (map asked_call script))) (sym m) n
+all_summed Turn turns r xs (Some x) s t u script f q Broke i y z k m breaks =
+    subst (λ (o : Option ℕ). IfSome o (λ n. n ≡ rooms (map asked_call script))) (sym (breaks x m)) tt
+
+-- the lines from a place on are those of what is left of the output there
+lines_shifted : (at k : ℕ) (cs : List S.Call) (xs : List Answer) (out : List ℕ) → lines_from (at + k) cs xs out ≡ lines_from k cs xs (drop at out)
 unfolding lines_from
-lines_here at script answers out i d x h k =
-    ap (λ (xs : List Asked). lines_from at (map asked_call xs) (drop i answers) out) (drop_more script i d h)
-    ∙ ap (λ (xs : List Answer). lines_from at (asked_call (get_or script i d) ∷ map asked_call (drop (i + 1) script)) xs out) (drop_more answers i x k)
+lines_shifted at k [] xs out = refl
+lines_shifted at k (c ∷ cs) [] out = refl
+lines_shifted at k (c ∷ cs) (x ∷ xs) out =
+    let e : (at + k) + room_in c ≡ at + (k + room_in c) = omega arith in
+    ap (λ (bs : List ℕ). answer_text x (take (sent_size x) bs) ++ lines_from ((at + k) + room_in c) cs xs out) (sym (drop-drop k at out))
+    ∙ ap (λ (n : ℕ). answer_text x (take (sent_size x) (drop k (drop at out))) ++ lines_from n cs xs out) e
+    ∙ ap (λ (ls : List ℕ). answer_text x (take (sent_size x) (drop k (drop at out))) ++ ls) (lines_shifted at (k + room_in c) cs xs out)
 
-pub lines_none : (at : ℕ) (script : List Asked) (answers : List Answer) (out : List ℕ) (i : ℕ) → length script ≤ i
-    → lines_from at (map asked_call (drop i script)) (drop i answers) out ≡ []
+-- the lines from a call on are its own, and those of the calls behind it over what its room leaves
+pub lines_here : (script rest : List Asked) (answers more : List Answer) (out : List ℕ) (a : Asked) (x : Answer) → script ≡ a ∷ rest → answers ≡ x ∷ more
+    → lines_from 0 (map asked_call script) answers out
+    ≡ answer_text x (take (sent_size x) out) ++ lines_from 0 (map asked_call rest) more (drop (room_in (asked_call a)) out)
 unfolding lines_from
-lines_none at script answers out i h = ap (λ (xs : List Asked). lines_from at (map asked_call xs) (drop i answers) out) (drop_all i script h)
+lines_here script rest answers more out a x p q =
+    let z : 0 + room_in (asked_call a) ≡ room_in (asked_call a) + 0 = omega arith in
+    ap₂ (λ (ys : List Asked) (xs : List Answer). lines_from 0 (map asked_call ys) xs out) p q
+    ∙ ap (λ (n : ℕ). answer_text x (take (sent_size x) out) ++ lines_from n (map asked_call rest) more out) z
+    ∙ ap (λ (ls : List ℕ). answer_text x (take (sent_size x) out) ++ ls) (lines_shifted (room_in (asked_call a)) 0 (map asked_call rest) more out)
+
+-- there are none where either list is empty
+pub lines_none : (script : List Asked) (answers : List Answer) (out : List ℕ) → (script ≡ []) ⊎ (answers ≡ []) → lines_from 0 (map asked_call script) answers out ≡ []
+unfolding lines_from
+lines_none script answers out (inl e) = ap (λ (ys : List Asked). lines_from 0 (map asked_call ys) answers out) e
+lines_none [] answers out (inr e) = refl
+lines_none (a ∷ ys) answers out (inr e) = ap (λ (xs : List Answer). lines_from 0 (asked_call a ∷ map asked_call ys) xs out) e
 
 -- what a run left, line by line, and the rows held are played
 pub all_played : (size : ℕ) (script : List Asked) (calls : List Call) (before after : List Answer) (out-before out : List ℕ) (rows : Rows) (text : List ℕ)
@@ -151,10 +193,9 @@ all_played size script calls before after out-before out rows text same many roo
       told ∙ ap (λ (xs : List ℕ). xs ++ listed rows) lines ∙ ap (λ (rs : Rows). answer_lines es ++ listed rs) ran.5,
     )
 
--- a script that fits has room for all it sends
-pub fits_room : (calls : List Call) (answers room : ℕ) → fits_script calls answers room ≡ true → rooms (map called calls) ≤ room
-fits_room calls answers room e = leb-true (rooms (map called calls)) room (second (leb (length calls) answers) (leb (rooms (map called calls)) room) e)
-  where
-    second : (a b : Bool) → (a && b) ≡ true → b ≡ true
-    second true b h = h
-    second false b h = let z : ◌≡◌ {A = ℕ} 0 1 = cc in absurd (omega arith)
+-- the calls of a script with an answer each and room for all they send fit
+pub fits : (script : List Asked) (calls : List Call) (answers room : ℕ) → map called calls ≡ map asked_call script → length script ≤ answers
+    → rooms (map called calls) ≤ room → fits_script calls answers room ≡ true
+fits script calls answers room same many h =
+    let count : length calls ≡ length script = sym (length-map calls called) ∙ ap length same ∙ length-map script asked_call in
+    ap₂ (λ (a b : Bool). a && b) (le-leb (length calls) answers (omega (arith, count, many))) (le-leb (rooms (map called calls)) room h)

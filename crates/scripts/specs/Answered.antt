@@ -6,12 +6,9 @@ use Rattle.listing.specs.Restated.{send_refused}
 use Rattle.runs.specs.declared.script.Answer.{Answer}
 use Rattle.runs.specs.declared.script.Answer.TheVariants.{Done, Sent, Refused, NotSent, NotNow}
 
-abbrev pub sent_lead : (length default : ℕ) → List ℕ
-sent_lead n d = codes "SENT " ++ (decimal n ++ (codes " " ++ (decimal d ++ codes " ")))
-
 -- what was sent, with its length and its default language
 abbrev pub sent_text : (length default : ℕ) (bytes : List ℕ) → List ℕ
-sent_text n d bytes = (sent_lead n d ++ hexes bytes) ++ newline
+sent_text n d bytes = codes "SENT " ++ (decimal n ++ (codes " " ++ (decimal d ++ (codes " " ++ (hexes bytes ++ newline)))))
 
 abbrev pub answer_text : Answer → List ℕ → List ℕ
 answer_text Done bytes = codes "OK" ++ newline

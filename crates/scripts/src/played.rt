@@ -1,25 +1,19 @@
 // The run of a script, with a line for each answer.
-ghost use Rattle.std.specs.Prelude.{◌≡◌, ◌≤◌, map, length as long, take, drop, IfSome, IfOk, string_bytes};
+ghost use Rattle.std.specs.Prelude.{◌≡◌, ◌≤◌, map, length as long, take, IfSome, IfOk, string_bytes};
 ghost use Rattle.runs.specs.Scripts.{called, rooms};
 ghost use Rattle.scripts.specs.Played.{asked_call, sent_size, lines_from, Played};
 
 use super::answered::answer_line;
 use super::asked::Asked;
 use listing::list_rows;
-use runs::{Answer, Call, run_script, script_fits};
+use runs::{Answer, Call, run_script};
 use std::alloc::{AllocError, Global};
 
-// So many bytes from a place on, as far as there are.
-fn part(bytes: &[u8], at: usize, length: usize) -> &[u8]
-    ensures { result.now ≡ take length (drop at bytes.now) }
+// So many bytes at the front, as far as there are.
+fn front(bytes: &[u8], length: usize) -> &[u8]
+    ensures { result.now ≡ take length bytes.now }
 {
-    if at >= bytes.len() {
-        return &[];
-    }
-    if bytes.len() - at < length {
-        return &bytes[at..];
-    }
-    &bytes[at..at + length]
+    bytes.get(..length).unwrap_or(bytes)
 }
 
 // How many bytes an answer says were sent.
@@ -36,25 +30,16 @@ fn sent_length(answer: Answer) -> usize
 fn calls_of<'a>(heap: Global, script: &'a [Asked]) -> Result<Vec<Call<'a>>, AllocError>
     ensures { IfOk result (λ v. map called v.items ≡ map asked_call script.now) }
 {
-    let mut calls = Vec::new(heap);
-    for asked in script {
-        calls.push(asked.call())?;
-    }
-    Ok(calls)
+    script.iter().map(|asked| asked.call()).collect(heap)
 }
 
 // How many bytes all sends ask for, if memory could have so many.
 fn rooms_of(script: &[Asked]) -> Option<usize>
     ensures { IfSome result (λ n. n ≡ rooms (map asked_call script.now)) }
 {
-    let mut room: usize = 0;
-    for asked in script {
-        match room.checked_add(asked.room()) {
-            Some(more) => room = more,
-            None => return None,
-        }
-    }
-    Some(room)
+    script
+        .iter()
+        .try_fold(0usize, |sum, asked| sum.checked_add(asked.room()))
 }
 
 // A line for each answer; what was sent stands in the rooms of the sends, one after the other.
@@ -64,41 +49,17 @@ fn list_answers(
     answers: &[Answer],
     out: &[u8],
 ) -> Result<String, AllocError>
-    requires answered { long script.now ≤ long answers.now }
-    requires room { rooms (map asked_call script.now) ≤ long out.now }
+    requires { rooms (map asked_call script.now) ≤ long out.now }
     ensures { IfOk result (λ s. string_bytes s ≡ lines_from 0 (map asked_call script.now) answers.now out.now) }
 {
     let mut text = String::new(heap);
-    let mut at: usize = 0;
-    for (i, asked) in script.iter().enumerate() {
-        let sent = part(out, at, sent_length(answers[i]));
-        let line = answer_line(heap, answers[i], sent)?;
+    let mut rest = out;
+    for (asked, answer) in script.iter().zip(answers) {
+        let sent = front(rest, sent_length(*answer));
+        let line = answer_line(heap, *answer, sent)?;
         text.push_str(line.as_str())?;
-        at += asked.room();
+        rest = &rest[asked.room()..];
     }
-    Ok(text)
-}
-
-// Makes the calls of a script, and lists the answers and the rows held.
-fn list_run(
-    heap: Global,
-    buffer: &mut [u8],
-    script: &[Asked],
-    calls: &[Call],
-    answers: &mut [Answer],
-    out: &mut [u8],
-) -> Result<String, AllocError>
-    requires same { map called calls.now ≡ map asked_call script.now }
-    requires answered { long answers.old ≡ long script.now }
-    ensures { IfOk result (λ s. Played (long buffer.old) (map asked_call script.now) (string_bytes s)) }
-{
-    if !script_fits(calls, answers.len(), out.len()) {
-        return Err(AllocError);
-    }
-    let sheet = run_script(buffer, calls, answers, out);
-    let rows = list_rows(heap, &sheet)?;
-    let mut text = list_answers(heap, script, answers, out)?;
-    text.push_str(rows.as_str())?;
     Ok(text)
 }
 
@@ -106,19 +67,17 @@ fn list_run(
 pub fn play_script(heap: Global, size: usize, script: &[Asked]) -> Result<String, AllocError>
     ensures { IfOk result (λ s. Played size (map asked_call script.now) (string_bytes s)) }
 {
-    let Some(room) = rooms_of(script) else {
-        return Err(AllocError);
-    };
+    let room = rooms_of(script).ok_or(AllocError)?;
     let calls = calls_of(heap, script)?;
     let mut buffer = vec![in heap; 0u8; size]?;
     let mut answers = vec![in heap; Answer::NotNow; script.len()]?;
     let mut out = vec![in heap; 0u8; room]?;
-    list_run(
-        heap,
-        buffer.as_mut_slice(),
-        script,
-        calls.as_slice(),
-        answers.as_mut_slice(),
-        out.as_mut_slice(),
-    )
+    let buffer = buffer.as_mut_slice();
+    let answers = answers.as_mut_slice();
+    let out = out.as_mut_slice();
+    let sheet = run_script(buffer, &calls, answers, out);
+    let rows = list_rows(heap, &sheet)?;
+    let mut text = list_answers(heap, script, answers, out)?;
+    text.push_str(rows.as_str())?;
+    Ok(text)
 }

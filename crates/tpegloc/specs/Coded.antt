@@ -7,6 +7,11 @@ use Rattle.grammar.specs.Reading.{Read, reading}
 use Rattle.grammar.specs.Sending.{sending_into}
 use Rattle.location.specs.Answers.{laid_over}
 
+-- an answer as the one number that C has for it
+abbrev pub code : Result ℕ ℕ → ℕ
+code (Ok n) = n
+code (Err k) = 1000000 + k
+
 -- the number of rows, or 1,000,000 plus the number of the refusal
 abbrev pub coded : Read Rows → ℕ
 coded (Ok rows) = length rows

@@ -1,5 +1,5 @@
 // Sends two locations and compares what was sent.
-ghost use Rattle.std.specs.Prelude.{◌≡◌, ◌≤◌, length, take, Decides};
+ghost use Rattle.std.specs.Prelude.{◌≡◌};
 ghost use Rattle.tpegloc.specs.Agreed.{Agreed, SameSent, Within};
 
 use grammar::SendFault;
@@ -7,19 +7,11 @@ use location::Location;
 use sender::send;
 
 // What came of sending two locations.
-#[derive(Clone, Copy)]
+#[derive(Clone, Copy, Debug, PartialEq, Eq)]
 pub struct Agreement {
     pub left: Result<(usize, u8), SendFault>, // length and default language, or why not
     pub right: Result<(usize, u8), SendFault>, // the same of the other
-    pub same: bool, // both were sent, as the same bytes
-}
-
-// The first n bytes of one are the first m of the other.
-fn same_fronts(left: &[u8], n: usize, right: &[u8], m: usize) -> bool
-    requires { (n ≤ length left.now) × (m ≤ length right.now) }
-    ensures { Decides result (take n left.now ≡ take m right.now) }
-{
-    &left[0..n] == &right[0..m]
+    pub same: bool, // both were sent, as the same bytes; no value comes with it that an Option would hold
 }
 
 // Both were sent, as the same bytes.
@@ -32,12 +24,9 @@ fn same_sent(
     requires { (Within on_left left.now) × (Within on_right right.now) }
     ensures { SameSent on_left left.now on_right right.now result }
 {
-    match on_left {
-        Ok((n, _)) => match on_right {
-            Ok((m, _)) => same_fronts(left, n, right, m),
-            Err(_) => false,
-        },
-        Err(_) => false,
+    match (on_left, on_right) {
+        (Ok((n, _)), Ok((m, _))) => &left[..n] == &right[..m],
+        _ => false,
     }
 }
 

@@ -10,7 +10,7 @@ use runs::{Answer, Call, run_script};
 use sheet::Fair;
 
 /// Makes the calls of a script on one unused sheet over a buffer, and sends two locations of any makes, each into an output of its own. Gives the sheet
-/// finished, and says by `agreement` what was sent and whether it is the same. Every promise of reading, sending and the sheet stands on this call.
+/// finished, and what was sent and whether it is the same. Every promise of reading, sending and the sheet stands on this call.
 pub fn trial<'a, A: Location, B: Location>(
     buffer: &'a mut [u8],
     calls: &[Call],
@@ -20,11 +20,10 @@ pub fn trial<'a, A: Location, B: Location>(
     b: &B,
     left: &mut [u8],
     right: &mut [u8],
-    agreement: &mut Agreement,
-) -> Fair<'a>
-    ensures tried { Tried (long buffer.old) calls.now answers.old answers.new out.old out.new (held result.store) (A.Location.whole a.now) (B.Location.whole b.now) left.old left.new right.old right.new agreement.new }
-    ensures same { fits_script calls.now (long answers.old) (long out.old) ≡ false → result.store.buffer.now ≡ buffer.old }
+) -> (Fair<'a>, Agreement)
+    ensures tried { Tried (long buffer.old) calls.now answers.old answers.new out.old out.new (held result.0.store) (A.Location.whole a.now) (B.Location.whole b.now) left.old left.new right.old right.new result.1 }
+    ensures same { fits_script calls.now (long answers.old) (long out.old) ≡ false → result.0.store.buffer.now ≡ buffer.old }
 {
-    *agreement = agree(a, b, left, right);
-    run_script(buffer, calls, answers, out)
+    let agreement = agree(a, b, left, right);
+    (run_script(buffer, calls, answers, out), agreement)
 }

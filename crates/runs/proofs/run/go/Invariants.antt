@@ -6,7 +6,9 @@ use Rattle.runs.proofs.run.go.Given as goal
 
 abbrev pub invariant-loop-i : goal.invariant-loop-i
 invariant-loop-i l =
-    Tied (size_of l.initial.draft) l.draft l.live (since [] (entries (size_of l.initial.draft) [] (map called (take l.i l.calls))))
-    × (l.answers ≡ map shown_in (entries (size_of l.initial.draft) [] (map called (take l.i l.calls))) ++ drop l.i l.initial.answers)
-    × (l.out ≡ written 0 (entries (size_of l.initial.draft) [] (map called (take l.i l.calls))) l.initial.out)
-    × (l.at ≡ rooms (map called (take l.i l.calls)))
+    record {
+      tied : Tied (size_of l.fn.draft) l.stage (since [] (entries (size_of l.fn.draft) [] (map called (take l.i l.calls))));
+      told : l.answers ≡ map shown_in (entries (size_of l.fn.draft) [] (map called (take l.i l.calls))) ++ drop l.i l.initial.answers;
+      wrote : l.out ≡ written 0 (entries (size_of l.fn.draft) [] (map called (take l.i l.calls))) l.initial.out;
+      there : l.at ≡ rooms (map called (take l.i l.calls));
+    }

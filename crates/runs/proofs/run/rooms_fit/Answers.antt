@@ -1,19 +1,12 @@
-use Rattle.std.proofs.Common.{arith}
-use borrow.Author.Tests.{lt-false, le-true}
-use Rattle.runs.proofs.Running.{blank_call, rooms_here, rooms_none}
+use Rattle.std.proofs.Common.{List, map, nat_le, ap, ◌∙◌, rules}
+use Rattle.runs.specs.declared.script.Call.{Call}
+use Rattle.runs.specs.Scripts.{called, rooms}
+use Rattle.runs.proofs.Fitting.{fits_tried}
 use Rattle.runs.proofs.run.rooms_fit.Goals as goal
-
-pub returns-then-room-left : goal.returns-then-room-left
-returns-then-room-left c =
-    let r = rooms_here c.args.calls.now c.loop-call.call-index blank_call c.loop-call-test.true in
-    lt-false _ c.args.limit (omega (arith, r, c.room_of-room.ensures, c.loop-call.invariant))
-
-pub loop-call-preserved : goal.loop-call-preserved
-loop-call-preserved c =
-    let r = rooms_here c.args.calls.now c.loop-call.call-index blank_call c.loop-call-test.true in
-    omega (arith, r, c.room_of-room.ensures, c.loop-call.invariant)
 
 pub returns : goal.returns
 returns c =
-    let r = rooms_none c.args.calls.now c.loop-call.call-index c.loop-call-test.false in
-    le-true _ c.args.limit (omega (arith, r, c.loop-call.invariant))
+    let r = c.try_fold.ensures.ran in
+    c.is_some.ensures
+    ∙ fits_tried _ (λ p x q h. search rules) _ r.0 r.1 c.iter.result r.4.0 _ _ c.args.limit (r.2, r.3) _ r.4.1 r.4.2 r.5 r.6 (λ x h. search rules)
+    ∙ ap (λ (cs : List Call). nat_le (rooms (map called cs)) c.args.limit) c.iter.ensures.rest

@@ -1,51 +1,58 @@
-use Rattle.std.proofs.Common.{◌≡◌, ◌+◌, ◌≤◌, ◌++◌, map, length, get_or, take, drop, string_bytes, sym, ap, ◌∙◌, arith, rules}
-use Rattle.std.proofs.lemmas.List.{append-nil}
+use Rattle.std.proofs.Common.{◌≡◌, ◌-◌, ◌++◌, List, map, length, take, drop, string_bytes, sym, ap, ◌∙◌, ap₂, arith, append-nil, ℕ}
+use Rattle.std.specs.Iterator.Adapters.{zip_first, zip_second}
+use Rattle.std.specs.Slice.Iter.{iter_rest}
+use Rattle.std.proofs.lemmas.List.{take_rest, length-drop}
+use Rattle.std.proofs.lemmas.Slice.Zip.{Zip-more, either_empty_from_Zip}
 use Rattle.grammar.specs.Sheet.{room_in}
-use Rattle.runs.specs.declared.script.Answer.TheVariants.{Done}
 use Rattle.listing.proofs.Writing.{line_more}
+use Rattle.runs.specs.declared.script.Answer.{Answer}
+use Rattle.runs.specs.Scripts.{rooms}
+use Rattle.scripts.specs.declared.asked.Asked.{Asked}
 use Rattle.scripts.specs.Answered.{answer_text}
 use Rattle.scripts.specs.Played.{asked_call, sent_size, lines_from}
-use Rattle.scripts.proofs.Playing.{lines_here, lines_none, rooms_here}
+use Rattle.scripts.proofs.Playing.{lines_here, lines_none}
 use Rattle.scripts.proofs.played.list_answers.Goals as goal
 
-pub overflow_add-at : goal.overflow_add-at
-overflow_add-at c =
-    let script = c.args.script.now in
-    let i = c.loop-i.i in
-    let item = c.index-script-i.result in
-    let here = rooms_here script i item c.loop-i-test.true in
-    let room : room_in (asked_call item) ≡ room_in (asked_call (get_or script i item)) = ap (λ x. room_in (asked_call x)) c.index-script-i.is in
-    let within : c.loop-i.at + c.room-at.result ≤ length c.args.out.now = omega (arith, here, room, c.room-at.ensures, c.loop-i.invariant.1, c.requires.room) in
-    search rules
+pub loop-asked-init : goal.loop-asked-init
+loop-asked-init c =
+    let all : iter_rest (zip_first c.into_iter-asked-iterator.result) ≡ c.args.script.now = cc in
+    let told : iter_rest (zip_second c.into_iter-asked-iterator.result) ≡ c.args.answers.now = cc in
+    record {
+      lines =
+          ap (λ (bs : List ℕ). bs ++ lines_from 0 (map asked_call (iter_rest (zip_first c.into_iter-asked-iterator.result))) (iter_rest (zip_second c.into_iter-asked-iterator.result)) c.args.out.now) c.new-text.ensures.bytes
+          ∙ ap₂ (λ (ys : List Asked) (xs : List Answer). lines_from 0 (map asked_call ys) xs c.args.out.now) all told;
+      room = omega (arith, ap (λ (ys : List Asked). rooms (map asked_call ys)) all, c.requires);
+    }
 
-pub loop-i-preserved : goal.loop-i-preserved
-loop-i-preserved c =
-    let script = c.args.script.now in
-    let answers = c.args.answers.now in
-    let out = c.args.out.now in
-    let at = c.loop-i.at in
-    let i = c.loop-i.i in
-    let item = c.index-script-i.result in
-    let answer = get_or answers i Done in
-    let room : c.room-at.result ≡ room_in (asked_call (get_or script i item)) =
-    c.room-at.ensures ∙ ap (λ x. room_in (asked_call x)) c.index-script-i.is in
-    let bytes : c.part-sent.result.now ≡ take (sent_size answer) (drop at out) =
-    c.part-sent.ensures ∙ ap (λ n. take n (drop at out)) c.sent_length.ensures in
-    let line : c.as_str.result.now ≡ answer_text answer (take (sent_size answer) (drop at out)) =
-    c.as_str.ensures.value ∙ c.in_ok-line.ensures ∙ ap (answer_text answer) bytes in
-    let written : string_bytes c.push_str.new.self ≡ string_bytes c.loop-i.text ++ answer_text answer (take (sent_size answer) (drop at out)) =
-    c.in_ok-push_str.ensures.bytes ∙ ap (λ xs. string_bytes c.loop-i.text ++ xs) line in
-    let there = lines_here at script answers out i item Done c.loop-i-test.true (omega (arith, c.loop-i-test.true, c.requires.answered)) in
-    let rest : lines_from (at + room_in (asked_call (get_or script i item))) (map asked_call (drop (i + 1) script)) (drop (i + 1) answers) out
-    ≡ lines_from (at + c.room-at.result) (map asked_call (drop (i + 1) script)) (drop (i + 1) answers) out =
-    ap (λ n. lines_from (at + n) (map asked_call (drop (i + 1) script)) (drop (i + 1) answers) out) (sym room) in (
-      line_more _ _ _ _ _ _ written (there ∙ ap (λ xs. answer_text answer (take (sent_size answer) (drop at out)) ++ xs) rest) c.loop-i.invariant.0,
-      omega (arith, rooms_here script i item c.loop-i-test.true, room, c.loop-i.invariant.1),
-    )
+pub slice_bounds-rest-count : goal.slice_bounds-rest-count
+slice_bounds-rest-count c =
+    let m = Zip-more c.loop-asked.asked-iterator c.next.new.self c.next.result (c.in-Some.asked, c.in-Some.answer) c.in-Some.is c.next.ensures.steps in
+    omega (arith, ap (λ (ys : List Asked). rooms (map asked_call ys)) m.0, c.room.ensures, c.loop-asked.invariant.room)
+
+pub loop-asked-preserved : goal.loop-asked-preserved
+loop-asked-preserved c =
+    let m = Zip-more c.loop-asked.asked-iterator c.next.new.self c.next.result (c.in-Some.asked, c.in-Some.answer) c.in-Some.is c.next.ensures.steps in
+    let left = c.next.new.self in
+    let rest = c.loop-asked.rest.now in
+    let answer = c.in-Some.answer.now in
+    let size = sent_size answer in
+    let room = c.room.result in
+    let sent : c.front-sent.result.now ≡ take size rest = c.front-sent.ensures ∙ ap (λ (n : ℕ). take n rest) c.sent_length.ensures in
+    let line : c.as_str.result.now ≡ answer_text answer (take size rest) = c.as_str.ensures.value ∙ c.in_ok-line.ensures ∙ ap (answer_text answer) sent in
+    let written : string_bytes c.push_str.new.self ≡ string_bytes c.loop-asked.text ++ answer_text answer (take size rest) =
+    c.in_ok-push_str.ensures.bytes ∙ ap (λ (xs : List ℕ). string_bytes c.loop-asked.text ++ xs) line in
+    let there = lines_here _ _ _ _ rest c.in-Some.asked.now answer m.0 m.1 in
+    let behind : drop (room_in (asked_call c.in-Some.asked.now)) rest ≡ take (length rest - room) (drop room rest) =
+    ap (λ (n : ℕ). drop n rest) (sym c.room.ensures) ∙ sym (take_rest rest room) in
+    let behind-lines = ap (λ (bs : List ℕ). answer_text answer (take size rest) ++ lines_from 0 (map asked_call (iter_rest (zip_first left))) (iter_rest (zip_second left)) bs) behind in
+    record {
+      lines = line_more _ _ _ _ _ _ written (there ∙ behind-lines) c.loop-asked.invariant.lines;
+      room =
+          omega (arith, ap (λ (ys : List Asked). rooms (map asked_call ys)) m.0, c.room.ensures, c.loop-asked.invariant.room, ap length behind, length-drop (room_in (asked_call c.in-Some.asked.now)) rest);
+    }
 
 pub returns : goal.returns
 returns c =
-    sym (append-nil (string_bytes c.loop-i.text))
-    ∙ ap (λ x. string_bytes c.loop-i.text ++ x)
-    (sym (lines_none c.loop-i.at c.args.script.now c.args.answers.now c.args.out.now c.loop-i.i (omega arith)))
-    ∙ c.loop-i.invariant.0
+    let i = c.loop-asked.asked-iterator in
+    let none = lines_none (iter_rest (zip_first i)) (iter_rest (zip_second i)) c.loop-asked.rest.now (either_empty_from_Zip i c.next.new.self c.next.result c.in-None.is c.next.ensures.steps) in
+    sym (append-nil (string_bytes c.loop-asked.text)) ∙ ap (λ (xs : List ℕ). string_bytes c.loop-asked.text ++ xs) (sym none) ∙ c.loop-asked.invariant.lines
