@@ -1,78 +1,65 @@
--- What is written of texts, rows and refusals, step by step.
-use Rattle.std.proofs.Common.{◌≡◌, ℕ, ◌+◌, ◌<◌, ◌≤◌, cond, List, [], ◌∷◌, ◌++◌, length, get_or, take, ℤ, is_ok, Some, None, Ok, codes, decimal, Result, sym, refl, ap, ◌∙◌, append_assoc, append-nil, arith, w32, SFits, to_z, of_z}
-use Rattle.std.specs.List.{slice_get}
-use Rattle.std.proofs.lemmas.List.{take_more, take_all}
-use Rattle.std.proofs.lemmas.Option.{slice_get-get_or, slice_get_past}
+-- What is written of bytes and rows.
+use Rattle.std.proofs.Common.{◌≡◌, ℕ, ◌+◌, ◌-◌, ◌^◌, ◌<◌, ◌≤◌, Bool, true, false, if◌then◌else◌, nat_le, List, [], ◌∷◌, ◌++◌, length, get_or, take, drop, ℤ, Some, Option, Result, sym, refl, ap, ◌∙◌, subst, append_assoc, append-nil, arith, w32, SFits, to_z, of_z}
+use Rattle.std.specs.Prelude.{IsOk}
+use Rattle.std.specs.Option.{option_map}
+use Rattle.std.specs.Fmt.{HasWritten, DisplaysOnOk, digits, digits_output, styled_digits_output, format_spec, padded_integral}
+use Rattle.std.specs.declared.fmt.Formatter.{Formatter}
+use Rattle.std.specs.declared.fmt.Error.{Error}
+use Rattle.std.proofs.Output.{has_written_append, has_written_of_eq}
+use Rattle.std.proofs.lemmas.Fmt.{hex_byte}
+use Rattle.std.proofs.lemmas.List.{take_more, take_at}
 use Rattle.std.proofs.lemmas.Int.{to_z-of_z}
-use Rattle.std.proofs.lemmas.Bool.{cases_lt}
 use Rattle.grammar.specs.Grammar.{Rows}
-use Rattle.grammar.specs.declared.fault.ReadFault.{ReadFault}
-use Rattle.grammar.specs.Faults.{number_of, place_of, level_of}
 use Rattle.location.specs.declared.Row.{Row}
-use Rattle.location.specs.Answers.{seen, head_row, head_text, Next}
-use Rattle.listing.specs.Listed.{hex, hexes, text_line, numbers_line, newline, first_line, lines, refused}
-
--- one byte more of a text
-take_nth : (t : List ℕ) (i b : ℕ) → Some b ≡ slice_get t i → take (i + 1) t ≡ take i t ++ b ∷ []
-take_nth t i b e = grind (arith, cases_lt i (length t), slice_get-get_or t i 0, slice_get_past t i, take_more t i 0)
-
-pub past_nth : (t : List ℕ) (i : ℕ) → None ≡ slice_get t i → length t ≤ i
-past_nth t i e = grind (arith, cases_lt i (length t), slice_get-get_or t i 0)
+use Rattle.location.specs.Answers.{seen, head_row, head_text, laid_over}
+use Rattle.listing.specs.Listed.{hex, hexes, text_line, numbers_line, newline, first_line}
 
 hexes_more : (xs : List ℕ) (b : ℕ) → hexes (xs ++ b ∷ []) ≡ hexes xs ++ hex b
 hexes_more [] b = append-nil (hex b)
 hexes_more (x ∷ xs) b = ap (λ t. hex x ++ t) (hexes_more xs b) ∙ sym (append_assoc (hex x) (hexes xs) (hex b))
 
--- a text that is not empty is written byte by byte
-text_bytes : (t : List ℕ) → 0 < length t → text_line t ≡ hexes t
-text_bytes [] h = absurd (omega arith)
-text_bytes (b ∷ bs) h = refl
+-- signed numbers, to their bits and back
+numbers_back : (d k : ℕ) (a b : ℤ) (l : ℕ) (rest : List ℕ) → SFits w32 a → SFits w32 b
+    → numbers_line d k (to_z w32 (of_z w32 a)) (to_z w32 (of_z w32 b)) l rest ≡ numbers_line d k a b l rest
+numbers_back d k a b l rest fa fb =
+    ap (λ (x : ℤ). numbers_line d k x (to_z w32 (of_z w32 b)) l rest) (to_z-of_z w32 a fa) ∙ ap (λ (x : ℤ). numbers_line d k a x l rest) (to_z-of_z w32 b fb)
 
--- a row as code sees it, with its text, is the line there
-pub line_there : (xs : Rows) (row : Row) → Some row ≡ head_row xs
-    → numbers_line row.depth row.kind row.a row.b row.language ++ (text_line (head_text xs) ++ newline) ≡ first_line xs
-line_there [] row e = let z : ◌≡◌ {A = ℕ} 0 1 = cc in absurd (omega arith)
-line_there (x ∷ xs) row e = let r : row ≡ seen x = cc in rw r
+-- a row as code sees it, with the text that was copied, is the line there
+pub line_printed : (xs : Rows) (row : Row) (room out : List ℕ) (fits : Bool) (n : ℕ) (s t : List ℕ)
+    → Some row ≡ head_row xs → SFits w32 row.a → SFits w32 row.b → row.length ≤ length room → n ≡ row.length
+    → fits ≡ nat_le (length (head_text xs)) (length room) → out ≡ (if fits then laid_over (head_text xs) room else room)
+    → t ≡ s ++ numbers_line row.depth row.kind (to_z w32 (of_z w32 row.a)) (to_z w32 (of_z w32 row.b)) row.language (text_line (take n out) ++ newline)
+    → t ≡ s ++ first_line xs
+line_printed [] row room out fits n s t e fa fb big m f w h = let z : ◌≡◌ {A = ℕ} 0 1 = cc in absurd (omega arith)
+line_printed (x ∷ xs) row room out fits n s t e fa fb big m f w h =
+    let r : row ≡ seen x = cc in
+    let long : row.length ≡ length x.text = ap (λ (q : Row). q.length) r in
+    let ok : fits ≡ true = grind (arith, long, big, f) in
+    let laid : out ≡ laid_over x.text room = w ∙ ap (λ (b : Bool). if b then laid_over x.text room else room) ok in
+    let told : take n out ≡ x.text =
+    ap (λ (k : ℕ). take k out) (m ∙ long) ∙ ap (take (length x.text)) laid ∙ take_at x.text (drop (length x.text) room) (length x.text) refl in
+    h ∙ ap (λ (z : List ℕ). s ++ z)
+    (numbers_back row.depth row.kind row.a row.b row.language (text_line (take n out) ++ newline) fa fb
+    ∙ ap (λ (z : List ℕ). numbers_line row.depth row.kind row.a row.b row.language (text_line z ++ newline)) told
+    ∙ ap (λ (q : Row). numbers_line q.depth q.kind q.a q.b q.language (text_line x.text ++ newline)) r)
 
--- the lines from a row on: its own, and those of the rest
-pub lines_step : {M : Type 0} (f : M → Rows) (xs : Rows) (m : M) → Next f xs (Some m) → lines xs ≡ first_line xs ++ lines (f m)
-lines_step f [] m h = absurd h
-lines_step f (x ∷ xs) m h = rw h
+-- what a byte prints
+hex_printed : (d : _) (s : _) (b : ℕ) → b < 256 → digits_output d ≡ Some (digits 16 true b) → s ≡ format_spec 32 0 4 2 (2 ^ 64 - 1)
+    → styled_digits_output d s ≡ Some (hex b)
+hex_printed d s b h e f =
+    ap (λ t. styled_digits_output d t) f ∙ ap (option_map (padded_integral (format_spec 32 0 4 2 (2 ^ 64 - 1)) false [])) e ∙ ap Some (hex_byte true b h)
+
+-- a byte more is printed
+pub byte_printed : {W : Type 0} (took : W → List ℕ → W → Type 0) (f g h : Formatter W) (xs : List ℕ) (i : ℕ) (d : _) (s : _) (r : Result (Unit {0}) Error)
+    → i < length xs → get_or xs i 0 < 256 → digits_output d ≡ Some (digits 16 true (get_or xs i 0)) → s ≡ format_spec 32 0 4 2 (2 ^ 64 - 1) → IsOk r
+    → HasWritten took f (hexes (take i xs)) g → DisplaysOnOk took g r (styled_digits_output d s) h → HasWritten took f (hexes (take (i + 1) xs)) h
+byte_printed took f g h xs i d s r l small e t ok p q =
+    let b = get_or xs i 0 in
+    let one : DisplaysOnOk took g r (Some (hex b)) h = subst (λ (o : Option (List ℕ)). DisplaysOnOk took g r o h) (hex_printed d s b small e t) q in
+    has_written_of_eq took f (hexes (take i xs) ++ hex b) (hexes (take (i + 1) xs)) h
+    (sym (hexes_more (take i xs) b) ∙ ap hexes (sym (take_more xs i 0 l)))
+    (has_written_append took f (hexes (take i xs)) g (hex b) h p (one p.plain ok))
 
 -- a line more is written, and is no more to come
 pub line_more : (s t a b to-come whole : List ℕ) → t ≡ s ++ a → to-come ≡ a ++ b → s ++ to-come ≡ whole → t ++ b ≡ whole
 line_more s t a b to-come whole e f h = rw e (append_assoc s a b ∙ ap (λ x. s ++ x) (sym f) ∙ h)
-
-pub refused_by : (f : ReadFault) (n p l : ℕ) (s : List ℕ) → n ≡ number_of f → p ≡ place_of f → l ≡ level_of f
-    → s ≡ codes "NO " ++ (decimal n ++ (codes " " ++ (decimal p ++ (codes " " ++ (decimal l ++ newline))))) → s ≡ refused f
-refused_by f n p l s en ep el h = h ∙ simp (en, ep, el)
-
--- what a push that went well adds
-pub pushed : {X E : Type 0} {r : Result X E} {u : X} (s t x : List ℕ) → r ≡ Ok u → t ≡ cond (is_ok r) (s ++ x) s → t ≡ s ++ x
-pushed s t x e h = rw e at h
-
-pub two_pushed : (s t u a b : List ℕ) (m n x y : ℕ) → t ≡ s ++ a → u ≡ t ++ b → a ≡ m ∷ [] → b ≡ n ∷ [] → m ≡ x → n ≡ y → u ≡ s ++ (x ∷ y ∷ [])
-two_pushed s t u a b m n x y et eu ea eb em en = simp (eu, et, ea, eb, em, en) (append_assoc s (x ∷ []) (y ∷ []))
-
-pub line_pushed : (s t u v n m x e l : List ℕ) → t ≡ s ++ n → n ≡ m → u ≡ t ++ x → v ≡ u ++ e → e ≡ newline → m ++ (x ++ newline) ≡ l → v ≡ s ++ l
-line_pushed s t u v n m x e l et en eu ev ee el =
-    simp (ev, eu, et, en, ee, ← el) (append_assoc (s ++ m) x newline ∙ append_assoc s m (x ++ newline))
-
-pub text_more : (t s o p : List ℕ) (i b : ℕ) → o ≡ s ++ hexes (take i t) → p ≡ o ++ hex b → Some b ≡ slice_get t i → p ≡ s ++ hexes (take (i + 1) t)
-text_more t s o p i b eo ep eb =
-    ep ∙ ap (λ x. x ++ hex b) eo ∙ append_assoc s (hexes (take i t)) (hex b) ∙ ap (λ x. s ++ x) (sym (hexes_more (take i t) b) ∙ ap hexes (sym (take_nth t i b eb)))
-
-pub text_all : (t s o : List ℕ) (i : ℕ) → length t ≤ i → 0 < length t → o ≡ s ++ hexes (take i t) → o ≡ s ++ text_line t
-text_all t s o i l some e = e ∙ ap (λ x. s ++ x) (ap hexes (take_all i t l) ∙ sym (text_bytes t some))
-
--- signed numbers, to their bits and back
-pub numbers_back : (d k : ℕ) (a b : ℤ) (l : ℕ) (s : List ℕ) → SFits w32 a → SFits w32 b
-    → s ≡ numbers_line d k (to_z w32 (of_z w32 a)) (to_z w32 (of_z w32 b)) l → s ≡ numbers_line d k a b l
-numbers_back d k a b l s fa fb h =
-    h ∙ ap (λ x. numbers_line d k x (to_z w32 (of_z w32 b)) l) (to_z-of_z w32 a fa) ∙ ap (λ x. numbers_line d k a x l) (to_z-of_z w32 b fb)
-
--- a byte more of bytes that are written
-pub bytes_more : (xs s o p : List ℕ) (i : ℕ) → i < length xs → o ≡ s ++ hexes (take i xs) → p ≡ o ++ hex (get_or xs i 0) → p ≡ s ++ hexes (take (i + 1) xs)
-bytes_more xs s o p i h eo ep =
-    ep ∙ ap (λ x. x ++ hex (get_or xs i 0)) eo ∙ append_assoc s (hexes (take i xs)) (hex (get_or xs i 0))
-    ∙ ap (λ x. s ++ x) (sym (hexes_more (take i xs) (get_or xs i 0)) ∙ ap hexes (sym (take_more xs i 0 h)))

@@ -25,13 +25,13 @@ abbrev pub text_line : List ℕ → List ℕ
 text_line [] = codes "-"
 text_line (b ∷ bs) = hexes (b ∷ bs)
 
--- a row's numbers, each with a blank after it
-abbrev pub numbers_line : ℕ → ℕ → ℤ → ℤ → ℕ → List ℕ
-numbers_line depth kind a b language =
-    decimal depth ++ (codes " " ++ (decimal kind ++ (codes " " ++ (signed_decimal a ++ (codes " " ++ (signed_decimal b ++ (codes " " ++ (decimal language ++ codes " "))))))))
+-- a row's numbers, each with a blank after it, and what follows them
+abbrev pub numbers_line : ℕ → ℕ → ℤ → ℤ → ℕ → List ℕ → List ℕ
+numbers_line depth kind a b language rest =
+    decimal depth ++ (codes " " ++ (decimal kind ++ (codes " " ++ (signed_decimal a ++ (codes " " ++ (signed_decimal b ++ (codes " " ++ (decimal language ++ (codes " " ++ rest)))))))))
 
 abbrev pub line : Row → List ℕ
-line x = numbers_line x.depth x.kind x.a x.b x.language ++ (text_line x.text ++ newline)
+line x = numbers_line x.depth x.kind x.a x.b x.language (text_line x.text ++ newline)
 
 -- the line of the first row, where a row is there
 abbrev pub first_line : Rows → List ℕ
@@ -54,12 +54,13 @@ abbrev pub no_line : ℕ → ℕ → ℕ → List ℕ
 no_line number place level = codes "NO " ++ (decimal number ++ (codes " " ++ (decimal place ++ (codes " " ++ (decimal level ++ newline)))))
 
 abbrev pub refused : ReadFault → List ℕ
-refused f = codes "NO " ++ (decimal (number_of f) ++ (codes " " ++ (decimal (place_of f) ++ (codes " " ++ (decimal (level_of f) ++ newline)))))
+refused f = no_line (number_of f) (place_of f) (level_of f)
 
-abbrev pub answered : Read Rows → List ℕ
-answered (Ok rows) = listed rows
-answered (Err f) = refused f
+-- what is said of the rows that were read, or why none were
+abbrev pub answered_by : (Rows → List ℕ) → Read Rows → List ℕ
+answered_by say (Ok rows) = say rows
+answered_by say (Err f) = refused f
 
 -- what bytes are
 abbrev pub shown : List ℕ → List ℕ
-shown bytes = answered (reading bytes)
+shown bytes = answered_by listed (reading bytes)

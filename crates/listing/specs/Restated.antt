@@ -7,14 +7,14 @@ use Rattle.grammar.specs.Reading.{Read, reading}
 use Rattle.grammar.specs.Sending.{sending_into}
 use Rattle.pile.specs.declared.Layer.{Layer}
 use Rattle.pile.specs.Through.{left_by_all}
-use Rattle.listing.specs.Listed.{newline, hexes, text_line, listed, no_line, refused}
+use Rattle.listing.specs.Listed.{newline, hexes, text_line, listed, no_line, answered_by}
 
 abbrev pub send_refused : SendFault → List ℕ
 send_refused f = no_line (send_number_of f) (send_place_of f) (send_level_of f)
 
 -- bytes behind a word
 abbrev pub sent_line : List ℕ → List ℕ → List ℕ
-sent_line lead bytes = (lead ++ hexes bytes) ++ newline
+sent_line lead bytes = lead ++ (hexes bytes ++ newline)
 
 -- what is sent, behind a word, or why nothing is
 abbrev pub send_line : List ℕ → Result (List ℕ) SendFault → List ℕ
@@ -30,18 +30,13 @@ abbrev pub with_sent : Rows → List ℕ
 with_sent rows = listed rows ++ right_of (codes "SEND ") rows
 
 -- the same of what layers leave of the rows that were read, or why none were
-abbrev pub restated_by : List Layer → Read Rows → List ℕ
-restated_by layers (Ok rows) = with_sent (left_by_all layers rows)
-restated_by layers (Err f) = refused f
-
 abbrev pub restated : List Layer → List ℕ → List ℕ
-restated layers bytes = restated_by layers (reading bytes)
+restated layers bytes = answered_by (λ rows. with_sent (left_by_all layers rows)) (reading bytes)
 
 -- the right column alone
 abbrev pub right_by : List Layer → Read Rows → List ℕ
-right_by layers (Ok rows) = right_of (codes "") (left_by_all layers rows)
-right_by layers (Err f) = refused f
+right_by layers read = answered_by (λ rows. right_of (codes "") (left_by_all layers rows)) read
 
 -- bytes on the left, what is sent for them on the right
 abbrev pub column : List Layer → List ℕ → List ℕ
-column layers bytes = (text_line bytes ++ codes " | ") ++ right_by layers (reading bytes)
+column layers bytes = text_line bytes ++ (codes " | " ++ right_by layers (reading bytes))

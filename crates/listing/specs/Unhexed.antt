@@ -1,5 +1,5 @@
 -- Bytes from hexadecimal text.
-use Rattle.std.specs.Prelude.{◌≡◌, ℕ, ◌+◌, ◌-◌, ◌*◌, ◌<◌, Bool, true, false, cond, ◌&&◌, List, [], ◌∷◌, ◌++◌, Some, None, Option, ◌==◌, nat_le}
+use Rattle.std.specs.Prelude.{◌≡◌, ℕ, ◌+◌, ◌-◌, ◌*◌, Bool, true, false, cond, ◌&&◌, List, [], ◌∷◌, Some, None, Option, ◌==◌, nat_le}
 use Rattle.grammar.specs.Grammar.{Bytes}
 use Rattle.listing.specs.Listed.{hexes}
 
@@ -32,13 +32,3 @@ unhex text = unhex_from text None
 -- bytes that are written out are read back
 abbrev pub ReadsBack : Type 0
 ReadsBack = (bytes : List ℕ) → Bytes bytes → unhex (hexes bytes) ≡ Some bytes
-
--- bytes in front of those that may come
-abbrev pub put_before : List ℕ → Option (List ℕ) → Option (List ℕ)
-put_before xs None = None
-put_before xs (Some ys) = Some (xs ++ ys)
-
--- a digit that waits is a digit
-abbrev pub Half : Option ℕ → Type 0
-Half None = Unit {0}
-Half (Some h) = h < 16

@@ -1,7 +1,7 @@
 // Reads a container from standard input, and prints its rows and what is sent for them, or why it is refused; or does so for a whole sheet of containers.
 #![tactic(auto)]
 
-use anyhow::anyhow;
+use anyhow::{Context, anyhow, bail};
 use listing::{list_column, list_container, list_restated, read_hex};
 use pile::{Layer, Order};
 use std::env;
@@ -44,101 +44,53 @@ the answer cannot be written, an argument is not known, or a line of a sheet is 
 hexadecimal.
 ";
 
-// What the arguments ask for.
-#[derive(Drop)]
-struct Task {
-    help: bool,
-    sheet: bool,
-    send: bool,
-    layers: Vec<Layer>,
+// What is asked for. Of several the last that stands here is done.
+#[derive(Clone, Copy, PartialEq, Eq, PartialOrd, Ord)]
+enum Task {
+    List,
+    Restate,
+    Sheet,
+    Help,
 }
 
-// An option that waits for its number.
-#[derive(Clone, Copy)]
-enum Waiting {
-    Nothing,
-    Language,
-    Cut,
+// The number behind an option.
+fn number_of(option: &str, text: Option<String>) -> anyhow::Result<u8> {
+    let text = text.context(format_args!("{option} takes a number"))?;
+    text.as_str().parse::<u8>().context(format_args!(
+        "{option} takes a number from 0 to 255, not '{text}'"
+    ))
 }
 
-fn number_of(rt: &HostRuntime, option: &str, text: &str) -> anyhow::Result<u8> {
-    match text.parse::<u8>() {
-        Ok(number) => Ok(number),
-        Err(_) => Err(anyhow!(format!(in rt.alloc();
-            "{option} takes a number from 0 to 255, not '{text}'"
-        )?)),
+// What the arguments ask for, and the layers, which ask for what is sent too.
+fn asked(rt: &HostRuntime) -> anyhow::Result<(Task, Vec<Layer>)> {
+    let mut task = Task::List;
+    let mut layers = Vec::new(rt.alloc());
+    let mut args = env::args(rt)?;
+    args.next(); // the program's name
+    while let Some(arg) = args.next() {
+        let more = match arg.as_str() {
+            "--help" | "-h" => Task::Help,
+            "--hex" => Task::Sheet,
+            "--send" => Task::Restate,
+            "--language" => {
+                layers.push(Layer::Language(number_of("--language", args.next())?))?;
+                Task::Restate
+            }
+            "--cut" => {
+                layers.push(Layer::Cut(number_of("--cut", args.next())?))?;
+                Task::Restate
+            }
+            other => bail!("unknown argument {other}, try --help"),
+        };
+        task = task.max(more);
     }
+    Ok((task, layers))
 }
 
-// An argument that is no number of an option; gives the option that waits for one, if any.
-fn take_word(rt: &HostRuntime, task: &mut Task, word: &str) -> anyhow::Result<Waiting> {
-    match word {
-        "--help" | "-h" => task.help = true,
-        "--hex" => task.sheet = true,
-        "--send" => task.send = true,
-        "--language" => return Ok(Waiting::Language),
-        "--cut" => return Ok(Waiting::Cut),
-        other => return Err(anyhow!(format!(in rt.alloc();
-            "unknown argument {other}, try --help"
-        )?)),
-    }
-    Ok(Waiting::Nothing)
-}
-
-fn take_argument(
-    rt: &HostRuntime,
-    task: &mut Task,
-    waiting: Waiting,
-    word: &str,
-) -> anyhow::Result<Waiting> {
-    match waiting {
-        Waiting::Nothing => return take_word(rt, task, word),
-        Waiting::Language => {
-            let language = number_of(rt, "--language", word)?;
-            task.layers.push(Layer::Language(language))?;
-        }
-        Waiting::Cut => {
-            let levels = number_of(rt, "--cut", word)?;
-            task.layers.push(Layer::Cut(levels))?;
-        }
-    }
-    Ok(Waiting::Nothing)
-}
-
-fn asked(rt: &HostRuntime) -> anyhow::Result<Task> {
-    let mut task = Task {
-        help: false,
-        sheet: false,
-        send: false,
-        layers: Vec::new(rt.alloc()),
-    };
-    let mut waiting = Waiting::Nothing;
-    for arg in env::args(rt)?.skip(1) {
-        waiting = take_argument(rt, &mut task, waiting, arg.as_str())?;
-    }
-    match waiting {
-        Waiting::Nothing => Ok(task),
-        Waiting::Language => Err(anyhow!("--language takes a number")),
-        Waiting::Cut => Err(anyhow!("--cut takes a number")),
-    }
-}
-
-fn list_input(rt: &HostRuntime) -> anyhow::Result<()> {
-    let heap = rt.alloc();
-    let mut bytes = Vec::new(heap);
+fn input(rt: &HostRuntime) -> anyhow::Result<Vec<u8>> {
+    let mut bytes = Vec::new(rt.alloc());
     rt.stdin().read_to_end(&mut bytes)?;
-    let listing = list_container(heap, bytes.as_slice())?;
-    print!(rt; "{listing}")?;
-    Ok(())
-}
-
-fn restate_input(rt: &HostRuntime, order: Order) -> anyhow::Result<()> {
-    let heap = rt.alloc();
-    let mut bytes = Vec::new(heap);
-    rt.stdin().read_to_end(&mut bytes)?;
-    let listing = list_restated(heap, bytes.as_slice(), order)?;
-    print!(rt; "{listing}")?;
-    Ok(())
+    Ok(bytes)
 }
 
 // The bytes of a line's left column; a dash stands for none.
@@ -147,19 +99,14 @@ fn left_bytes(rt: &HostRuntime, left: &str, number: usize) -> anyhow::Result<Vec
     if left == "-" {
         return Ok(Vec::new(heap));
     }
-    match read_hex(heap, left.as_bytes())? {
-        Some(bytes) => Ok(bytes),
-        None => Err(anyhow!(format!(in heap;
-            "line {number} is not hexadecimal with two digits for each byte"
-        )?)),
-    }
+    read_hex(heap, left.as_bytes())?.context(format_args!(
+        "line {number} is not hexadecimal with two digits for each byte"
+    ))
 }
 
 fn restate_line(rt: &HostRuntime, order: Order, line: &str, number: usize) -> anyhow::Result<()> {
-    let left = match line.split_once("|") {
-        Some((left, _right)) => left.trim(),
-        None => line.trim(),
-    };
+    let (left, _right) = line.split_once("|").unwrap_or((line, ""));
+    let left = left.trim();
     if left.is_empty() || left.starts_with("#") {
         println!(rt; "{line}")?;
         return Ok(());
@@ -180,28 +127,26 @@ fn restate_sheet(rt: &HostRuntime, order: Order) -> anyhow::Result<()> {
 }
 
 fn run(rt: &HostRuntime) -> anyhow::Result<()> {
-    let task = asked(rt)?;
-    if task.help {
+    let heap = rt.alloc();
+    let (task, layers) = asked(rt)?;
+    if task == Task::Help {
         print!(rt; "{HELP}")?;
         return Ok(());
     }
-    let Some(order) = Order::of(task.layers.as_slice()) else {
-        return Err(anyhow!("more than four layers"));
-    };
-    if task.sheet {
+    let order = Order::of(layers.as_slice()).context("more than four layers")?;
+    if task == Task::Sheet {
         return restate_sheet(rt, order);
     }
-    if task.send || !task.layers.is_empty() {
-        restate_input(rt, order)
-    } else {
-        list_input(rt)
-    }
+    let bytes = input(rt)?;
+    let listing = match task {
+        Task::List => list_container(heap, bytes.as_slice())?,
+        _ => list_restated(heap, bytes.as_slice(), order)?,
+    };
+    print!(rt; "{listing}")?;
+    Ok(())
 }
 
 // What went wrong is printed in quotes.
 fn main(rt: HostRuntime) -> anyhow::Result<()> {
-    match run(&rt) {
-        Ok(()) => Ok(()),
-        Err(why) => Err(anyhow!(format!(in rt.alloc(); "\"{why}\"")?)),
-    }
+    run(&rt).map_err(|why| anyhow!("\"{why}\""))
 }

@@ -3,7 +3,7 @@
 
 mod parsed;
 
-use anyhow::anyhow;
+use anyhow::{Context, anyhow, ensure};
 use parsed::parse_script;
 use scripts::play_script;
 use std::env;
@@ -47,34 +47,19 @@ enum Task {
     Play(u32),
 }
 
-fn size_of(rt: &HostRuntime, text: &str) -> anyhow::Result<u32> {
-    match text.parse::<u32>() {
-        Ok(size) => Ok(size),
-        Err(_) => Err(anyhow!(format!(in rt.alloc();
-            "SIZE is a number of bytes below 4294967296, not '{text}'"
-        )?)),
-    }
-}
-
-fn take_argument(rt: &HostRuntime, word: &str) -> anyhow::Result<Task> {
-    match word {
-        "--help" | "-h" => Ok(Task::Help),
-        word => Ok(Task::Play(size_of(rt, word)?)),
-    }
-}
-
 fn asked(rt: &HostRuntime) -> anyhow::Result<Task> {
-    let mut task: Option<Task> = None;
-    for word in env::args(rt)?.skip(1) {
-        if task.is_some() {
-            return Err(anyhow!("one argument is taken, try --help"));
-        }
-        task = Some(take_argument(rt, word.as_str())?);
-    }
-    match task {
-        Some(task) => Ok(task),
-        None => Err(anyhow!("SIZE is missing, try --help")),
-    }
+    let mut args = env::args(rt)?.skip(1);
+    let word = args.next().context("SIZE is missing, try --help")?;
+    let task = match word.as_str() {
+        "--help" | "-h" => Task::Help,
+        size => Task::Play(
+            size.parse::<u32>().context(format_args!(
+                "SIZE is a number of bytes below 4294967296, not '{size}'"
+            ))?,
+        ),
+    };
+    ensure!(args.next().is_none(), "one argument is taken, try --help");
+    Ok(task)
 }
 
 fn play(rt: &HostRuntime, size: u32) -> anyhow::Result<()> {
@@ -99,8 +84,5 @@ fn run(rt: &HostRuntime) -> anyhow::Result<()> {
 
 // What went wrong is printed in quotes.
 fn main(rt: HostRuntime) -> anyhow::Result<()> {
-    match run(&rt) {
-        Ok(()) => Ok(()),
-        Err(why) => Err(anyhow!(format!(in rt.alloc(); "\"{why}\"")?)),
-    }
+    run(&rt).map_err(|why| anyhow!("\"{why}\""))
 }

@@ -1,21 +1,8 @@
 // The calls of a script, from its text.
-use anyhow::anyhow;
+use anyhow::Context;
 use listing::read_hex;
 use scripts::Asked;
 use std::alloc::{AllocError, Global};
-
-// What a line with this first word should be.
-fn form_of(word: &str) -> &'static str {
-    match word {
-        "load" => "load HEX",
-        "open" => "open KIND A B",
-        "number" => "number KIND A B",
-        "name" => "name KIND LANGUAGE HEX",
-        "send" => "send ROOM",
-        "close" | "clear" | "finish" | "reopen" => "one word",
-        _ => "load, open, number, name, close, clear, finish, reopen or send",
-    }
-}
 
 // Two digits for each byte, blanks as one likes, or a dash for no bytes.
 fn parse_bytes(heap: Global, text: &str) -> Result<Option<Vec<u8>>, AllocError> {
@@ -32,85 +19,72 @@ fn parse_numbers(text: &str) -> Option<(u8, i32, i32)> {
     let kind = words.next()?.parse::<u8>().ok()?;
     let a = words.next()?.parse::<i32>().ok()?;
     let b = words.next()?.parse::<i32>().ok()?;
-    match words.next() {
-        None => Some((kind, a, b)),
-        Some(_) => None,
-    }
+    words.next().is_none().then_some((kind, a, b))
 }
 
-fn parse_load(heap: Global, text: &str) -> Result<Option<Asked>, AllocError> {
-    match parse_bytes(heap, text)? {
-        Some(bytes) => Ok(Some(Asked::Load(bytes))),
-        None => Ok(None),
-    }
+// A kind, a language and the text that is behind them.
+fn parse_named(text: &str) -> Option<(u8, u8, &str)> {
+    let (kind, rest) = text.split_once(" ")?;
+    let (language, bytes) = rest.trim().split_once(" ")?;
+    Some((
+        kind.parse::<u8>().ok()?,
+        language.parse::<u8>().ok()?,
+        bytes.trim(),
+    ))
 }
 
-// A kind, a language and the text.
 fn parse_name(heap: Global, text: &str) -> Result<Option<Asked>, AllocError> {
-    let Some((kind, rest)) = text.split_once(" ") else {
+    let Some((kind, language, text)) = parse_named(text) else {
         return Ok(None);
     };
-    let Some((language, bytes)) = rest.trim().split_once(" ") else {
-        return Ok(None);
-    };
-    let (Ok(kind), Ok(language)) = (kind.parse::<u8>(), language.parse::<u8>()) else {
-        return Ok(None);
-    };
-    match parse_bytes(heap, bytes.trim())? {
-        Some(bytes) => Ok(Some(Asked::Name(kind, language, bytes))),
-        None => Ok(None),
-    }
+    Ok(parse_bytes(heap, text)?.map(|bytes| Asked::Name(kind, language, bytes)))
 }
 
-// The call by its first word and the rest of the line, which is trimmed; none where they make no call.
-fn parse_call(heap: Global, word: &str, rest: &str) -> Result<Option<Asked>, AllocError> {
-    match word {
-        "load" => return parse_load(heap, rest),
-        "name" => return parse_name(heap, rest),
-        "open" => {
-            if let Some((kind, a, b)) = parse_numbers(rest) {
-                return Ok(Some(Asked::Open(kind, a, b)));
-            }
-        }
-        "number" => {
-            if let Some((kind, a, b)) = parse_numbers(rest) {
-                return Ok(Some(Asked::Number(kind, a, b)));
-            }
-        }
-        "send" => {
-            if let Ok(room) = rest.parse::<u16>() {
-                return Ok(Some(Asked::Send(room)));
-            }
-        }
-        "close" if rest.is_empty() => return Ok(Some(Asked::Close)),
-        "clear" if rest.is_empty() => return Ok(Some(Asked::Clear)),
-        "finish" if rest.is_empty() => return Ok(Some(Asked::Finish)),
-        "reopen" if rest.is_empty() => return Ok(Some(Asked::Reopen)),
-        _ => {}
-    }
-    Ok(None)
+// A call that is one word.
+fn parse_word(rest: &str, asked: Asked) -> Option<Asked> {
+    rest.is_empty().then_some(asked)
+}
+
+// What a line with this first word should be, and the call that it makes with the rest of the line, if it is that.
+fn parse_call(
+    heap: Global,
+    word: &str,
+    rest: &str,
+) -> Result<(&'static str, Option<Asked>), AllocError> {
+    Ok(match word {
+        "load" => ("load HEX", parse_bytes(heap, rest)?.map(Asked::Load)),
+        "open" => (
+            "open KIND A B",
+            parse_numbers(rest).map(|(kind, a, b)| Asked::Open(kind, a, b)),
+        ),
+        "number" => (
+            "number KIND A B",
+            parse_numbers(rest).map(|(kind, a, b)| Asked::Number(kind, a, b)),
+        ),
+        "name" => ("name KIND LANGUAGE HEX", parse_name(heap, rest)?),
+        "send" => ("send ROOM", rest.parse::<u16>().ok().map(Asked::Send)),
+        "close" => ("one word", parse_word(rest, Asked::Close)),
+        "clear" => ("one word", parse_word(rest, Asked::Clear)),
+        "finish" => ("one word", parse_word(rest, Asked::Finish)),
+        "reopen" => ("one word", parse_word(rest, Asked::Reopen)),
+        _ => (
+            "load, open, number, name, close, clear, finish, reopen or send",
+            None,
+        ),
+    })
 }
 
 // The call of a line; none where the line has only blanks and a comment.
 fn parse_line(heap: Global, line: &str, number: usize) -> anyhow::Result<Option<Asked>> {
-    let code = match line.split_once("#") {
-        Some((code, _comment)) => code.trim(),
-        None => line.trim(),
-    };
+    let (code, _comment) = line.split_once("#").unwrap_or((line, ""));
+    let code = code.trim();
     if code.is_empty() {
         return Ok(None);
     }
-    let (word, rest) = match code.split_once(" ") {
-        Some((word, rest)) => (word, rest.trim()),
-        None => (code, ""),
-    };
-    match parse_call(heap, word, rest)? {
-        Some(asked) => Ok(Some(asked)),
-        None => {
-            let form = form_of(word);
-            Err(anyhow!(format!(in heap; "line {number} should be: {form}")?))
-        }
-    }
+    let (word, rest) = code.split_once(" ").unwrap_or((code, ""));
+    let (form, asked) = parse_call(heap, word, rest.trim())?;
+    let asked = asked.context(format_args!("line {number} should be: {form}"))?;
+    Ok(Some(asked))
 }
 
 // The calls of a script, one to a line; '#' starts a comment. An error names the first line that is no call.

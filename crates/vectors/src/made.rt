@@ -1,5 +1,4 @@
 // A location that the tests make from any rows, also from such as no container tells.
-ghost use Rattle.std.specs.Prelude.{◌≡◌, drop};
 ghost use Rattle.vectors.specs.Made.{told_lines};
 
 use location::{Location, Row};
@@ -11,47 +10,37 @@ pub(crate) struct Line {
     pub(crate) fill: u8,
 }
 
-#[derive(Drop)]
+#[derive(Clone, Copy)]
 pub(crate) struct Made<'a> {
     pub(crate) lines: &'a [Line],
 }
 
+// A mark is the lines from there on.
 impl<'a> Location for Made<'a> {
-    type Mark = usize;
+    type Mark = &'a [Line];
 
-    ghost rows = { λ s m. told_lines (drop m s.lines.now) };
+    ghost rows = { λ s m. told_lines m.now };
 
     ghost whole = { λ s. told_lines s.lines.now };
 
-    fn first(&self) -> usize {
-        0
+    fn first(&self) -> &'a [Line] {
+        self.lines
     }
 
-    fn here(&self, m: usize) -> bool {
-        m < self.lines.len()
+    fn here(&self, m: &'a [Line]) -> bool {
+        !m.is_empty()
     }
 
-    fn row(&self, m: usize) -> Option<Row> {
-        if m < self.lines.len() {
-            Some(self.lines[m].row)
-        } else {
-            None
-        }
+    fn row(&self, m: &'a [Line]) -> Option<Row> {
+        m.first().map(|line| line.row)
     }
 
-    fn byte(&self, m: usize, i: usize) -> Option<u8> {
-        if m < self.lines.len() && i < usize::from(self.lines[m].row.length) {
-            Some(self.lines[m].fill)
-        } else {
-            None
-        }
+    fn byte(&self, m: &'a [Line], i: usize) -> Option<u8> {
+        let line = m.first()?;
+        (i < usize::from(line.row.length)).then_some(line.fill)
     }
 
-    fn next(&self, m: usize) -> Option<usize> {
-        if m < self.lines.len() {
-            Some(m + 1)
-        } else {
-            None
-        }
+    fn next(&self, m: &'a [Line]) -> Option<&'a [Line]> {
+        m.split_first().map(|(_line, rest)| rest)
     }
 }

@@ -4,7 +4,7 @@
 mod made;
 mod sending;
 
-use anyhow::anyhow;
+use anyhow::{Context, anyhow, bail};
 use listing::list_container;
 use sending::{right_of, size_of, through};
 use std::alloc::{AllocError, Global};
@@ -29,7 +29,7 @@ enum Form {
     Through(Vec<u8>, String),
 }
 
-#[derive(Drop)]
+#[derive(Clone, Copy)]
 struct Tally {
     all: u64,
     differ: u64,
@@ -38,18 +38,16 @@ struct Tally {
 impl Tally {
     fn count(&mut self, agrees: bool) {
         self.all = self.all.saturating_add(1);
-        if !agrees {
-            self.differ = self.differ.saturating_add(1);
-        }
+        self.differ = self.differ.saturating_add(u64::from(!agrees));
     }
 }
 
+// The value of a digit; a small letter is none.
 fn hex_value(digit: u8) -> Option<u8> {
-    match digit {
-        b'0'..=b'9' => Some(digit - b'0'),
-        b'A'..=b'F' => Some(digit - b'A' + 10),
-        _ => None,
+    if digit.is_ascii_lowercase() {
+        return None;
     }
+    Some(char::from(digit).to_digit(16)? as u8)
 }
 
 // Two digits for each byte, or a dash for no bytes.
@@ -60,10 +58,10 @@ fn parse_bytes(heap: Global, text: &str) -> anyhow::Result<Vec<u8>> {
     }
     for pair in text.as_bytes().chunks(2) {
         let [high, low] = pair else {
-            return Err(anyhow!("half a byte"));
+            bail!("half a byte");
         };
         let (Some(high), Some(low)) = (hex_value(*high), hex_value(*low)) else {
-            return Err(anyhow!("not a hexadecimal digit"));
+            bail!("not a hexadecimal digit");
         };
         bytes.push((high << 4) | low)?;
     }
@@ -79,40 +77,21 @@ fn parse_form(heap: Global, text: &str) -> anyhow::Result<Form> {
         "rows" => Ok(Form::Rows(String::from_str(heap, rest)?)),
         "size" => Ok(Form::Size(String::from_str(heap, rest)?)),
         "through" => {
-            let (bytes, layers) = match rest.split_once(" ") {
-                Some((bytes, layers)) => (bytes, layers),
-                None => (rest, ""),
-            };
+            let (bytes, layers) = rest.split_once(" ").unwrap_or((rest, ""));
             Ok(Form::Through(parse_bytes(heap, bytes)?, String::from_str(heap, layers)?))
         }
-        _ => Err(anyhow!("no such form of a vector")),
+        _ => bail!("no such form of a vector"),
     }
 }
 
 // A line `FORM | EXPECTED # why`.
 fn parse_vector(heap: Global, line: &str) -> anyhow::Result<Vector> {
-    let Some((vector, _why)) = line.split_once(" # ") else {
-        return Err(anyhow!("no ' # '"));
-    };
-    let Some((form, expected)) = vector.split_once(" | ") else {
-        return Err(anyhow!("no ' | '"));
-    };
+    let (vector, _why) = line.split_once(" # ").context("no ' # '")?;
+    let (form, expected) = vector.split_once(" | ").context("no ' | '")?;
     Ok(Vector {
         form: parse_form(heap, form)?,
         expected: String::from_str(heap, expected)?,
     })
-}
-
-// A listing with `;` in place of each newline but the last.
-fn on_one_line(heap: Global, listing: &str) -> Result<String, AllocError> {
-    let mut out = String::new(heap);
-    for (i, line) in listing.lines().enumerate() {
-        if i > 0 {
-            out.push(';')?;
-        }
-        out.push_str(line)?;
-    }
-    Ok(out)
 }
 
 // Whether the answer is the one that is expected; a line says where it is another.
@@ -124,24 +103,22 @@ fn agrees(rt: &HostRuntime, name: &str, vector: &Vector) -> anyhow::Result<bool>
         Form::Size(rows) => size_of(heap, rows.as_str())?,
         Form::Through(bytes, layers) => through(heap, bytes.as_slice(), layers.as_str())?,
     };
-    let found = on_one_line(heap, listing.as_str())?;
-    if found == vector.expected {
-        return Ok(true);
+    // all on one line, as the table has it
+    let lines: Vec<&str> = listing.lines().collect(heap)?;
+    let found = lines.join(heap, ";")?;
+    let agrees = found == vector.expected;
+    if !agrees {
+        println!(rt; "{name}: expected {}, found {found}", vector.expected)?;
     }
-    let expected = vector.expected.as_str();
-    println!(rt; "{name}: expected {expected}, found {found}")?;
-    Ok(false)
+    Ok(agrees)
 }
 
 fn try_table(rt: &HostRuntime, table: &str, tally: &mut Tally) -> anyhow::Result<()> {
     let heap = rt.alloc();
     for (i, line) in table.lines().enumerate() {
-        let number = i.saturating_add(1);
-        let name = format!(in heap; "line {number}")?;
-        match parse_vector(heap, line) {
-            Ok(vector) => tally.count(agrees(rt, name.as_str(), &vector)?),
-            Err(why) => return Err(anyhow!(format!(in heap; "{name} is no vector: {why}")?)),
-        }
+        let name = format!(in heap; "line {}", i.saturating_add(1))?;
+        let vector = parse_vector(heap, line).map_err(|why| anyhow!("{name} is no vector: {why}"))?;
+        tally.count(agrees(rt, name.as_str(), &vector)?);
     }
     Ok(())
 }
@@ -150,9 +127,7 @@ fn try_table(rt: &HostRuntime, table: &str, tally: &mut Tally) -> anyhow::Result
 fn unknown_only(heap: Global, size: u16) -> Result<Vec<u8>, AllocError> {
     let [high, low] = size.to_be_bytes();
     let mut bytes = vec![in heap; 0, 5, high, low]?;
-    for _ in 0..size {
-        bytes.push(0)?;
-    }
+    bytes.resize(4 + usize::from(size), 0)?;
     Ok(bytes)
 }
 
@@ -161,12 +136,11 @@ fn try_long(rt: &HostRuntime, tally: &mut Tally) -> anyhow::Result<()> {
     let heap = rt.alloc();
     for (size, expected) in [(MOST_DATA, "ROWS 0"), (MOST_DATA + 1, "NO 1 0 0")] {
         let bytes = unknown_only(heap, size)?;
-        let length = bytes.len();
+        let name = format!(in heap; "{} bytes", bytes.len())?;
         let vector = Vector {
             form: Form::Read(bytes),
             expected: String::from_str(heap, expected)?,
         };
-        let name = format!(in heap; "{length} bytes")?;
         let agrees = agrees(rt, name.as_str(), &vector)?;
         if agrees {
             println!(rt; "{name}: {expected}")?;
@@ -185,7 +159,7 @@ fn run(rt: &HostRuntime) -> anyhow::Result<()> {
     let Tally { all, differ } = tally;
     if differ > 0 {
         println!(rt; "{differ} of {all} vectors differ")?;
-        return Err(anyhow!("vectors differ"));
+        bail!("vectors differ");
     }
     println!(rt; "{all} vectors agree")?;
     Ok(())
@@ -193,8 +167,5 @@ fn run(rt: &HostRuntime) -> anyhow::Result<()> {
 
 // What went wrong is printed in quotes.
 fn main(rt: HostRuntime) -> anyhow::Result<()> {
-    match run(&rt) {
-        Ok(()) => Ok(()),
-        Err(why) => Err(anyhow!(format!(in rt.alloc(); "\"{why}\"")?)),
-    }
+    run(&rt).map_err(|why| anyhow!("\"{why}\""))
 }

@@ -1,45 +1,42 @@
 // Vectors of sending: rows that the table spells out, and containers under layers.
 use super::made::{Line, Made};
-use anyhow::anyhow;
+use anyhow::{Context, bail};
+use grammar::Refusal;
 use listing::{list_restated, list_sent};
 use location::{Location, Row};
 use pile::{Layer, Order};
 use sender::send;
 use std::alloc::Global;
+use std::iter::repeat_n;
 
 // A text `41*3` is the byte 41 three times, and a dash is no text.
 fn parse_text(text: &str) -> anyhow::Result<(u8, u8)> {
     if text == "-" {
         return Ok((0, 0));
     }
-    let Some((fill, length)) = text.split_once("*") else {
-        return Err(anyhow!("a text is '-' or BYTE*LENGTH"));
-    };
+    let (fill, length) = text
+        .split_once("*")
+        .context("a text is '-' or BYTE*LENGTH")?;
     Ok((u8::from_str_radix(fill, 16)?, length.parse::<u8>()?))
 }
 
-fn word<'a>(word: Option<&'a str>) -> anyhow::Result<&'a str> {
-    match word {
-        Some(word) => Ok(word),
-        None => Err(anyhow!("a row is DEPTH KIND A B LANGUAGE TEXT")),
-    }
-}
-
-// A row `DEPTH KIND A B LANGUAGE TEXT`, so often: `3x` before it says three times.
+// A row `DEPTH KIND A B LANGUAGE TEXT`, so often: `3x` before it says three times. So it is no FromStr of one line.
 fn push_lines(lines: &mut Vec<Line>, text: &str) -> anyhow::Result<()> {
     let mut words = text.split(' ');
-    let mut first = word(words.next())?;
-    let mut times: u16 = 1;
-    if let Some(number) = first.strip_suffix("x") {
-        times = number.parse::<u16>()?;
-        first = word(words.next())?;
-    }
-    let depth = first.parse::<u8>()?;
-    let kind = word(words.next())?.parse::<u8>()?;
-    let a = word(words.next())?.parse::<i32>()?;
-    let b = word(words.next())?.parse::<i32>()?;
-    let language = word(words.next())?.parse::<u8>()?;
-    let (fill, length) = parse_text(word(words.next())?)?;
+    let mut word = || words
+        .next()
+        .context("a row is DEPTH KIND A B LANGUAGE TEXT");
+    let first = word()?;
+    let (times, depth) = match first.strip_suffix("x") {
+        Some(number) => (number.parse::<u16>()?, word()?),
+        None => (1, first),
+    };
+    let depth = depth.parse::<u8>()?;
+    let kind = word()?.parse::<u8>()?;
+    let a = word()?.parse::<i32>()?;
+    let b = word()?.parse::<i32>()?;
+    let language = word()?.parse::<u8>()?;
+    let (fill, length) = parse_text(word()?)?;
     let row = Row {
         depth,
         kind,
@@ -48,9 +45,7 @@ fn push_lines(lines: &mut Vec<Line>, text: &str) -> anyhow::Result<()> {
         language,
         length,
     };
-    for _ in 0..times {
-        lines.push(Line { row, fill })?;
-    }
+    lines.extend(repeat_n(Line { row, fill }, usize::from(times)))?;
     Ok(())
 }
 
@@ -80,37 +75,28 @@ pub(crate) fn size_of(heap: Global, rows: &str) -> anyhow::Result<String> {
     let mut room = [0u8; 65_535];
     match send(&made, &mut room) {
         Ok((length, default)) => Ok(format!(in heap; "{length} {default}")?),
-        Err(fault) => {
-            let number = fault.number();
-            Ok(format!(in heap; "NO {number}")?)
-        }
+        Err(fault) => Ok(format!(in heap; "NO {}", fault.number())?),
     }
 }
 
+// A layer is pile's type, which cannot have its FromStr here.
 fn parse_layer(word: &str) -> anyhow::Result<Layer> {
-    let Some((name, number)) = word.split_once("=") else {
-        return Err(anyhow!("a layer is language=L or cut=N"));
-    };
+    let (name, number) = word
+        .split_once("=")
+        .context("a layer is language=L or cut=N")?;
     match name {
         "language" => Ok(Layer::Language(number.parse::<u8>()?)),
         "cut" => Ok(Layer::Cut(number.parse::<u8>()?)),
-        _ => Err(anyhow!("no such layer")),
+        _ => bail!("no such layer"),
     }
-}
-
-fn parse_layers(heap: Global, text: &str) -> anyhow::Result<Vec<Layer>> {
-    let mut layers = Vec::new(heap);
-    for word in text.split_whitespace() {
-        layers.push(parse_layer(word)?)?;
-    }
-    Ok(layers)
 }
 
 // What layers leave of a container's rows, and what is sent for that.
 pub(crate) fn through(heap: Global, bytes: &[u8], layers: &str) -> anyhow::Result<String> {
-    let layers = parse_layers(heap, layers)?;
-    match Order::of(layers.as_slice()) {
-        Some(order) => Ok(list_restated(heap, bytes, order)?),
-        None => Err(anyhow!("more layers than a pile has")),
-    }
+    let layers: Vec<Layer> = layers
+        .split_whitespace()
+        .map(parse_layer)
+        .try_collect(heap)?;
+    let order = Order::of(layers.as_slice()).context("more layers than a pile has")?;
+    Ok(list_restated(heap, bytes, order)?)
 }

@@ -1,5 +1,5 @@
-use Rattle.vectors.proofs.Making.{is_there}
+use Rattle.vectors.proofs.Making.{any_told}
 use Rattle.vectors.proofs.made.MadeLocation.here.Goals as goal
 
 pub returns : goal.returns
-returns c = is_there c.args.self.now.lines.now c.args.m
+returns c = any_told c.args.m.now c.is_empty.result c.is_empty.ensures
