@@ -12,7 +12,8 @@ use Rattle.grammar.specs.Reading.{if, number, signed, beyond, first_number, seco
 use Rattle.grammar.specs.Offsets as O
 use Rattle.grammar.proofs.Cut.{by_cases}
 use Rattle.grammar.proofs.Slices.{slice_drop, value_slice}
-use Rattle.fields.specs.Shape.{Shape, extent, fitting, unlaid, globe_shape}
+use Rattle.fields.specs.Lay.{Lay}
+use Rattle.fields.specs.Shape.{Shape, extent, fitting, unlaid, lay_of, globe_shape}
 use Rattle.fields.specs.Told.{read_at, tells, told_at, numbers_at}
 use Rattle.fields.specs.Laws.{Faithful}
 
@@ -82,8 +83,8 @@ module _ {V : Type 0} (s : Shape V) (honest : Faithful s) where
       (λ o. rw (o, ← honest.first p, ← honest.second p, first_in bs at s.fields h, second_in bs at s.fields h))))
 
   -- so do those of what was read, if it told any
-  pub told_numbers : (bs : List ℕ) (at : ℕ) {o : Option V} {r : Option (ℤ × ℤ)} → o ≡ read_at (unlaid s) (extent s) bs at → r ≡ tells s o → r ≡ numbers_at s.fields bs at
-  told_numbers bs at e q = q ∙ ap (tells s) e ∙ told_same bs at
+  pub told_numbers : (l : Lay V) → l ≡ lay_of s → (bs : List ℕ) (at : ℕ) {o : Option V} {r : Option (ℤ × ℤ)} → o ≡ read_at l.reads l.size bs at → r ≡ tells s o → r ≡ numbers_at s.fields bs at
+  told_numbers l t bs at e q = q ∙ ap (tells s) (e ∙ ap (λ (k : Lay V). read_at k.reads k.size bs at) t) ∙ told_same bs at
 
 -- a number's bits read as signed, where half of the numbers of its width are negative
 pub halved : (half m : ℕ) → sel (ltb m half) (pos m) (negsuc (half * 2 - suc m)) ≡ if (ltb (m * 2) (half * 2)) (λ _. pos m) (λ _. negsuc (half * 2 - suc m))

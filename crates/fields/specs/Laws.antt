@@ -12,7 +12,8 @@ use Rattle.grammar.specs.Grammar.{Bytes}
 use Rattle.grammar.specs.Reading.{is_text, is_count, least, first_number, second_number, off_globe}
 use Rattle.grammar.proofs.Numbers.{length_twos}
 use Rattle.grammar.proofs.Fixed.{Writes, Reads, fields_written, fields_read, no_count}
-use Rattle.fields.specs.Shape.{Shape, fitting, laid, readable, unlaid, code_shape, floor_shape, radius_shape, height_shape, globe_shape, count_shape}
+use Rattle.fields.specs.Lay.{Lawful}
+use Rattle.fields.specs.Shape.{Shape, fitting, laid, readable, unlaid, lay_of, code_shape, floor_shape, radius_shape, height_shape, globe_shape, count_shape}
 use Rattle.fields.specs.Fit.{fit_is, fits_from}
 
 -- fields other than a text always take as many bytes
@@ -97,6 +98,10 @@ module _ {V : Type 0} (s : Shape V) (honest : Faithful s) where
     good =
         ap (fitting s) (sym got.1)
         ∙ and_from _ _ (rw (← honest.first bs, ← honest.second bs) (fits_from _ _ _ _ writes.fit)) (lt-ltb (s.parts (s.value bs)) 256 (honest.few bs small))
+
+  -- the values lie in bytes lawfully
+  pub lawful_of : Lawful (lay_of s)
+  lawful_of = record { back = back; only = only; good = good; long = long }
 
 -- the first of some bytes, or 0
 first_small : (bs : List ℕ) → Bytes bs → slice_index bs 0 < 256

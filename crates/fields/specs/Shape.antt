@@ -4,6 +4,7 @@ use Rattle.grammar.specs.declared.table.Fields.{Fields}
 use Rattle.grammar.specs.declared.table.Fields.TheVariants.{Code, Globe, Floor, Count, Radius, Height}
 use Rattle.grammar.specs.Format.{fixed, fixed_bytes, fits, natural}
 use Rattle.grammar.specs.Reading.{first_number, second_number, off_globe}
+use Rattle.fields.specs.Lay.{Lay}
 
 -- What the values of V are to the grammar.
 pub record Shape (V : Type 0) : Type 0 where
@@ -37,6 +38,10 @@ module _ {V : Type 0} (s : Shape V) where
   -- the value of these bytes, or none
   abbrev pub unlaid : List ℕ → Option V
   unlaid bs = cond (readable bs) (Some (s.value bs)) None
+
+  -- how the values lie in bytes
+  abbrev pub lay_of : Lay V
+  lay_of = record { valid = fitting; size = extent; written = laid; reads = unlaid }
 
 -- A code is its one number.
 abbrev pub code_shape : Shape ℕ

@@ -1,10 +1,10 @@
 // Codes: one byte, under an identifier that is a parameter.
-ghost use Rattle.std.specs.Prelude.{◌≡◌};
+ghost use Rattle.std.specs.Prelude.{◌≡◌, refl};
 ghost use Rattle.grammar.specs.Format.{layout};
-ghost use Rattle.fields.specs.Shape.{code_shape};
-ghost use Rattle.fields.specs.Laws.{faithful_code};
+ghost use Rattle.fields.specs.Shape.{lay_of, code_shape};
+ghost use Rattle.fields.specs.Laws.{lawful_of, faithful_code};
 
-use super::{FixedFields, put};
+use super::{FixedFields, Tells, put};
 
 // A code: one byte. Components of several identifiers hold one, so the identifier is a parameter.
 pub struct Code<const I: u8>;
@@ -16,9 +16,9 @@ impl<const I: u8> FixedFields for Code<I> {
 
     ghost ID = { I };
 
-    ghost shape = { code_shape };
+    ghost lay = { lay_of code_shape };
 
-    ghost honest = { faithful_code };
+    ghost lawful = { lawful_of code_shape faithful_code };
 
     fn size() -> usize {
         1
@@ -31,6 +31,14 @@ impl<const I: u8> FixedFields for Code<I> {
     fn write(code: u8, out: &mut [u8]) -> bool {
         put(&code.to_be_bytes(), out)
     }
+}
+
+impl<const I: u8> Tells for Code<I> {
+    ghost shape = { code_shape };
+
+    ghost honest = { faithful_code };
+
+    ghost tied = { refl };
 
     fn told(code: u8) -> (i32, i32) {
         (i32::from(code), 0)

@@ -1,9 +1,10 @@
 // How many nodes stand in associated modes: one byte.
+ghost use Rattle.std.specs.Prelude.{refl};
 ghost use Rattle.grammar.specs.Format.{layout};
-ghost use Rattle.fields.specs.Shape.{count_shape};
-ghost use Rattle.fields.specs.Laws.{faithful_count};
+ghost use Rattle.fields.specs.Shape.{lay_of, count_shape};
+ghost use Rattle.fields.specs.Laws.{lawful_of, faithful_count};
 
-use super::{FixedFields, put};
+use super::{FixedFields, Tells, put};
 
 pub struct Count;
 
@@ -14,9 +15,9 @@ impl FixedFields for Count {
 
     ghost ID = { (layout 7).id };
 
-    ghost shape = { count_shape };
+    ghost lay = { lay_of count_shape };
 
-    ghost honest = { faithful_count };
+    ghost lawful = { lawful_of count_shape faithful_count };
 
     fn size() -> usize {
         1
@@ -29,6 +30,14 @@ impl FixedFields for Count {
     fn write(count: u8, out: &mut [u8]) -> bool {
         put(&count.to_be_bytes(), out)
     }
+}
+
+impl Tells for Count {
+    ghost shape = { count_shape };
+
+    ghost honest = { faithful_count };
+
+    ghost tied = { refl };
 
     fn told(_count: u8) -> (i32, i32) {
         (0, 0)

@@ -1,9 +1,10 @@
 // The floor of a node: one signed byte.
+ghost use Rattle.std.specs.Prelude.{refl};
 ghost use Rattle.grammar.specs.Format.{layout};
-ghost use Rattle.fields.specs.Shape.{floor_shape};
-ghost use Rattle.fields.specs.Laws.{faithful_floor};
+ghost use Rattle.fields.specs.Shape.{lay_of, floor_shape};
+ghost use Rattle.fields.specs.Laws.{lawful_of, faithful_floor};
 
-use super::{FixedFields, put};
+use super::{FixedFields, Tells, put};
 
 pub struct Floor;
 
@@ -14,9 +15,9 @@ impl FixedFields for Floor {
 
     ghost ID = { (layout 5).id };
 
-    ghost shape = { floor_shape };
+    ghost lay = { lay_of floor_shape };
 
-    ghost honest = { faithful_floor };
+    ghost lawful = { lawful_of floor_shape faithful_floor };
 
     fn size() -> usize {
         1
@@ -29,6 +30,14 @@ impl FixedFields for Floor {
     fn write(floor: i8, out: &mut [u8]) -> bool {
         put(&floor.to_be_bytes(), out)
     }
+}
+
+impl Tells for Floor {
+    ghost shape = { floor_shape };
+
+    ghost honest = { faithful_floor };
+
+    ghost tied = { refl };
 
     fn told(floor: i8) -> (i32, i32) {
         (i32::from(floor), 0)

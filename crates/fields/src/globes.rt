@@ -1,10 +1,10 @@
 // A place on the globe: longitude, then latitude, a signed number in four bytes each.
-ghost use Rattle.std.specs.Prelude.{◌≡◌};
+ghost use Rattle.std.specs.Prelude.{◌≡◌, refl};
 ghost use Rattle.grammar.specs.Format.{layout};
-ghost use Rattle.fields.specs.Shape.{fitting, globe_shape};
-ghost use Rattle.fields.specs.Laws.{faithful_globe};
+ghost use Rattle.fields.specs.Shape.{lay_of, fitting, globe_shape};
+ghost use Rattle.fields.specs.Laws.{lawful_of, faithful_globe};
 
-use super::{FixedFields, put};
+use super::{FixedFields, Tells, put};
 
 pub struct Globe;
 
@@ -22,9 +22,9 @@ impl FixedFields for Globe {
 
     ghost ID = { (layout 4).id };
 
-    ghost shape = { globe_shape };
+    ghost lay = { lay_of globe_shape };
 
-    ghost honest = { faithful_globe };
+    ghost lawful = { lawful_of globe_shape faithful_globe };
 
     fn size() -> usize {
         8
@@ -41,6 +41,14 @@ impl FixedFields for Globe {
         let bytes = [longitude.to_be_bytes(), latitude.to_be_bytes()];
         on_globe(longitude, latitude) && put(bytes.as_flattened(), out)
     }
+}
+
+impl Tells for Globe {
+    ghost shape = { globe_shape };
+
+    ghost honest = { faithful_globe };
+
+    ghost tied = { refl };
 
     fn told(place: (i32, i32)) -> (i32, i32) {
         place

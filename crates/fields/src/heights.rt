@@ -1,9 +1,10 @@
 // The height of a place: a code, then a signed number in two bytes.
+ghost use Rattle.std.specs.Prelude.{refl};
 ghost use Rattle.grammar.specs.Format.{layout};
-ghost use Rattle.fields.specs.Shape.{height_shape};
-ghost use Rattle.fields.specs.Laws.{faithful_height};
+ghost use Rattle.fields.specs.Shape.{lay_of, height_shape};
+ghost use Rattle.fields.specs.Laws.{lawful_of, faithful_height};
 
-use super::{FixedFields, put};
+use super::{FixedFields, Tells, put};
 
 pub struct Height;
 
@@ -14,9 +15,9 @@ impl FixedFields for Height {
 
     ghost ID = { (layout 9).id };
 
-    ghost shape = { height_shape };
+    ghost lay = { lay_of height_shape };
 
-    ghost honest = { faithful_height };
+    ghost lawful = { lawful_of height_shape faithful_height };
 
     fn size() -> usize {
         3
@@ -31,6 +32,14 @@ impl FixedFields for Height {
         let [a, b] = height.to_be_bytes();
         put(&[code, a, b], out)
     }
+}
+
+impl Tells for Height {
+    ghost shape = { height_shape };
+
+    ghost honest = { faithful_height };
+
+    ghost tied = { refl };
 
     fn told((code, height): (u8, i16)) -> (i32, i32) {
         (i32::from(code), i32::from(height))

@@ -3,9 +3,9 @@
 
 ghost use Rattle.std.specs.Prelude.{◌≡◌, ℕ, ◌+◌, true, ◌&&◌, ltb, List, ◌++◌, length, drop, pos, if◌then◌else◌, Some, None, nat_le};
 ghost use Rattle.grammar.specs.Grammar.{Bytes};
-ghost use Rattle.fields.specs.Shape.{Shape, extent, fitting, laid, unlaid};
+ghost use Rattle.fields.specs.Lay.{Lay, Lawful};
+ghost use Rattle.fields.specs.Shape.{Shape, lay_of};
 ghost use Rattle.fields.specs.Laws.{Faithful};
-ghost use Rattle.fields.specs.Laws;
 ghost use Rattle.fields.specs.Told.{read_at, numbers_at};
 
 use grammar::Fields;
@@ -16,6 +16,8 @@ mod floors;
 mod globes;
 mod heights;
 mod radii;
+#[cfg(test)]
+mod tests;
 
 pub use codes::{Code, ModeCode, NodeCode, code_identifiers};
 pub use counts::Count;
@@ -39,8 +41,8 @@ pub trait FixedFields {
 
     ghost ID: { ℕ };
 
-    // what the values are to the grammar
-    ghost shape: { Shape Self.Value };
+    // how the values lie in bytes
+    ghost lay: { Lay Self.Value };
 
     fn identifier() -> u8
         ensures { result ≡ ID }
@@ -49,16 +51,37 @@ pub trait FixedFields {
     }
 
     fn size() -> usize
-        ensures { result ≡ extent shape };
+        ensures { result ≡ lay.size };
 
     // None where the bytes are too few or too many, or hold what may not be written.
     fn read(bytes: &[u8]) -> Option<Self::Value>
-        ensures { result ≡ unlaid shape bytes.now };
+        ensures { result ≡ lay.reads bytes.now };
 
     // Writes the value at the front; false, and nothing is written, where it may not be or there is no room.
     fn write(v: Self::Value, out: &mut [u8]) -> bool
-        ensures told { result ≡ (fitting shape v && nat_le (extent shape) (length out.old)) }
-        ensures wrote { out.new ≡ (if result then laid shape v ++ drop (extent shape) out.old else out.old) };
+        ensures told { result ≡ (lay.valid v && nat_le lay.size (length out.old)) }
+        ensures wrote { out.new ≡ (if result then lay.written v ++ drop lay.size out.old else out.old) };
+
+    // what is written is read back, and what is read is written back
+    ghost lawful: { Lawful lay };
+
+    // a value that may be written is read back
+    ghost back: { (v : Self.Value) → lay.valid v ≡ true → lay.reads (lay.written v) ≡ Some v } = { lawful.back };
+
+    // bytes that have a value are the bytes of that value
+    ghost only: { (bs : List ℕ) (v : Self.Value) → Bytes bs → lay.reads bs ≡ Some v → lay.written v ≡ bs } = { lawful.only };
+
+    // what is read may be written
+    ghost good: { (bs : List ℕ) (v : Self.Value) → Bytes bs → lay.reads bs ≡ Some v → lay.valid v ≡ true } = { lawful.good };
+
+    // every value takes as many bytes
+    ghost long: { (v : Self.Value) → length (lay.written v) ≡ lay.size } = { lawful.long };
+}
+
+// Fixed fields whose values are to the grammar what their shape says.
+pub trait Tells: FixedFields {
+    // what the values are to the grammar
+    ghost shape: { Shape Self.Value };
 
     // The two numbers that a value tells.
     fn told(v: Self::Value) -> (i32, i32)
@@ -67,17 +90,8 @@ pub trait FixedFields {
     // a value is what its bytes tell and count
     ghost honest: { Faithful shape };
 
-    // a value that may be written is read back
-    ghost back: { (v : Self.Value) → fitting shape v ≡ true → unlaid shape (laid shape v) ≡ Some v } = { Laws.back shape honest };
-
-    // bytes that have a value are the bytes of that value
-    ghost only: { (bs : List ℕ) (v : Self.Value) → Bytes bs → unlaid shape bs ≡ Some v → laid shape v ≡ bs } = { Laws.only shape honest };
-
-    // what is read may be written
-    ghost good: { (bs : List ℕ) (v : Self.Value) → Bytes bs → unlaid shape bs ≡ Some v → fitting shape v ≡ true } = { Laws.good shape honest };
-
-    // every value takes as many bytes
-    ghost long: { (v : Self.Value) → length (laid shape v) ≡ extent shape } = { Laws.long shape honest };
+    // the values lie in bytes as the grammar has them
+    ghost tied: { Self.lay ≡ lay_of shape };
 }
 
 // Writes the bytes at the front, if there is room.
@@ -96,13 +110,13 @@ pub(crate) fn put(bytes: &[u8], out: &mut [u8]) -> bool
 
 // The value of the fields at an offset.
 pub fn read_at<F: FixedFields>(bytes: &[u8], at: usize) -> Option<F::Value>
-    ensures { result ≡ read_at (unlaid F.shape) (extent F.shape) bytes.now at }
+    ensures { result ≡ read_at F.lay.reads F.lay.size bytes.now at }
 {
     F::read(bytes.get(at..)?.get(..F::size())?)
 }
 
 // The two numbers that the fields at an offset tell.
-fn told_at<F: FixedFields>(bytes: &[u8], at: usize) -> Option<(i32, i32)>
+fn told_at<F: Tells>(bytes: &[u8], at: usize) -> Option<(i32, i32)>
     ensures { result ≡ numbers_at F.shape.fields bytes.now at }
 {
     Some(F::told(read_at::<F>(bytes, at)?))

@@ -1,9 +1,10 @@
 // The radius of a place: a number in two bytes.
+ghost use Rattle.std.specs.Prelude.{refl};
 ghost use Rattle.grammar.specs.Format.{layout};
-ghost use Rattle.fields.specs.Shape.{radius_shape};
-ghost use Rattle.fields.specs.Laws.{faithful_radius};
+ghost use Rattle.fields.specs.Shape.{lay_of, radius_shape};
+ghost use Rattle.fields.specs.Laws.{lawful_of, faithful_radius};
 
-use super::{FixedFields, put};
+use super::{FixedFields, Tells, put};
 
 pub struct Radius;
 
@@ -14,9 +15,9 @@ impl FixedFields for Radius {
 
     ghost ID = { (layout 8).id };
 
-    ghost shape = { radius_shape };
+    ghost lay = { lay_of radius_shape };
 
-    ghost honest = { faithful_radius };
+    ghost lawful = { lawful_of radius_shape faithful_radius };
 
     fn size() -> usize {
         2
@@ -29,6 +30,14 @@ impl FixedFields for Radius {
     fn write(radius: u16, out: &mut [u8]) -> bool {
         put(&radius.to_be_bytes(), out)
     }
+}
+
+impl Tells for Radius {
+    ghost shape = { radius_shape };
+
+    ghost honest = { faithful_radius };
+
+    ghost tied = { refl };
 
     fn told(radius: u16) -> (i32, i32) {
         (i32::from(radius), 0)

@@ -1,7 +1,6 @@
 // Writes bytes into an output one behind the other, each over what stood there.
 ghost use Rattle.std.specs.Prelude.{◌≡◌, ℕ, suc, ◌+◌, ◌^◌, ◌<◌, ◌≤◌, true, [], ◌∷◌, length as long};
 ghost use Rattle.grammar.specs.Format.{big, layout, fits, fixed, fixed_bytes};
-ghost use Rattle.fields.specs.Shape.{extent, fitting, laid};
 ghost use Rattle.location.specs.Answers.{head_text};
 ghost use Rattle.sender.specs.Penned.{Room, Wrote};
 
@@ -77,9 +76,9 @@ impl<'o> Pen<'o> {
 
     // The value of one kind of fixed fields.
     fn value<F: FixedFields>(&mut self, v: F::Value)
-        requires good { fitting F.shape v ≡ true }
-        requires room { Room self.old (extent F.shape) }
-        ensures { Wrote self.old (laid F.shape v) self.new }
+        requires good { F.lay.valid v ≡ true }
+        requires room { Room self.old F.lay.size }
+        ensures { Wrote self.old (F.lay.written v) self.new }
     {
         F::write(v, &mut self.out[self.at..]);
         self.at += F::size();

@@ -5,8 +5,8 @@ use Rattle.fields.proofs.told_at.Goals as goal
 
 pub returns : goal.returns
 returns g c =
-    told_numbers g.F.FixedFields.shape g.met.F.FixedFields.honest c.args.bytes.now c.args.at (sym c.in_ok-read_at.was ∙ c.read_at.ensures) (ap Some c.told.ensures)
+    told_numbers g.F.Tells.shape g.met.F.Tells.honest _ g.met.F.Tells.tied c.args.bytes.now c.args.at (sym c.in_ok-read_at.was ∙ c.read_at.ensures) (ap Some c.told.ensures)
 
 pub returns-in_err-read_at : goal.returns-in_err-read_at
 returns-in_err-read_at g c =
-    told_numbers g.F.FixedFields.shape g.met.F.FixedFields.honest c.args.bytes.now c.args.at (sym c.in_err-read_at.was ∙ c.read_at.ensures) c.from_residual.ensures
+    told_numbers g.F.Tells.shape g.met.F.Tells.honest _ g.met.F.Tells.tied c.args.bytes.now c.args.at (sym c.in_err-read_at.was ∙ c.read_at.ensures) c.from_residual.ensures
