@@ -104,7 +104,7 @@ const KINDS: [Layout; 28] = [
 pub fn layout_of(kind: u8) -> Layout
     ensures { result ≡ layout kind }
 {
-    KINDS.get(usize::from(kind)).copied().unwrap_or(BLANK)
+    *KINDS.get(usize::from(kind)).unwrap_or(&BLANK)
 }
 
 impl Layout {

@@ -4,7 +4,8 @@ use Rattle.std.proofs.Common.{◌≡◌, ℕ, zero, suc, ◌+◌, ◌-◌, ◌<�
 use Rattle.std.specs.Option.{option_map}
 use Rattle.grammar.specs.declared.fault.ReadFault.{ReadFault}
 use Rattle.grammar.specs.Format.{layout, width, kind_at}
-use Rattle.grammar.specs.Grammar.{Rows}
+use borrow.Author.Tests.{lt-leb}
+use Rattle.grammar.specs.Grammar.{Rows, Row as Told}
 use Rattle.grammar.specs.Reading.{Read, Spoken, if, closed, or_else, is_text}
 use Rattle.grammar.specs.Offsets as O
 use Rattle.grammar.specs.declared.table.Fields.TheVariants.{Text}
@@ -25,7 +26,7 @@ use Rattle.grammar.specs.declared.table.Spot.{Spot}
 use Rattle.grammar.proofs.Cut.{by_cases}
 use Rattle.grammar.proofs.Steps.{ends_within}
 use Rattle.reader.specs.declared.sights.Sight.{Sight}
-use Rattle.reader.specs.Seen.{Within, told_row}
+use Rattle.reader.specs.Seen.{Roomy, Within, rows_beyond, told_row}
 use Rattle.reader.proofs.Stacked.{stack_length}
 
 stack_top : (fs : List Frame) (n : ℕ) → 0 < n
@@ -131,6 +132,20 @@ module _ (bs : List ℕ) (m : Mark) (f : Frame) (some : 0 < m.held) (is-top : f 
         (sight_short to _ _ q refl z refl)
         (sight_off to _ _ q refl z refl)
         (sight_known to _ _ q refl z refl))
+
+-- the row of a known component, and the rows past it, where the mark has room for one holder more
+pub rows_seen : (bs : List ℕ) (m : Mark) (s : Sight) → s.depth ≡ m.held - 1
+    → rows_at bs m ≡ after bs m (Some (Known (record { kind = s.kind; from = s.from; inside = s.inside; stop = s.stop }))) → Roomy m s
+    → rows_at bs m ≡ told_row bs s ∷ rows_beyond bs m s
+rows_seen bs m s d e r =
+    let named = ap (λ (n : ℕ). row_at bs (get_or bs 0 0) n s.kind s.from s.stop) (sym d) in
+    by_cases (closed (layout s.kind).inside)
+    (λ c.
+    e ∙ first_way (closed (layout s.kind).inside) _ _ c refl
+    ∙ ap₂ (λ (x : Told) (xs : Rows). x ∷ xs) named (sym (first_way (closed (layout s.kind).inside) _ _ c refl)))
+    (λ c.
+    e ∙ other_way (closed (layout s.kind).inside) _ _ c (other_way (leb 17 m.held) _ _ (lt-leb 17 m.held (r c)) refl)
+    ∙ ap₂ (λ (x : Told) (xs : Rows). x ∷ xs) named (sym (other_way (closed (layout s.kind).inside) _ _ c refl)))
 
 -- what stands at a place moves on, and keeps to the bytes
 abbrev pub Kept : List ℕ → ℕ → Option Standing → Type 0

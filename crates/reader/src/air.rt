@@ -56,25 +56,26 @@ impl<'a> Location for Container<'a> {
         )
     }
 
-    fn here(&self, m: Mark) -> bool {
-        find(self.bytes, m).is_some()
+    fn here(&self, mut m: Mark) -> bool {
+        find(self.bytes, &mut m).is_some()
     }
 
-    fn row(&self, m: Mark) -> Option<Row> {
-        Some(find(self.bytes, m)?.row(self.bytes))
+    fn row(&self, mut m: Mark) -> Option<Row> {
+        Some(find(self.bytes, &mut m)?.row(self.bytes))
     }
 
-    fn byte(&self, m: Mark, i: usize) -> Option<u8> {
-        find(self.bytes, m)?.byte(self.bytes, i)
+    fn byte(&self, mut m: Mark, i: usize) -> Option<u8> {
+        find(self.bytes, &mut m)?.byte(self.bytes, i)
     }
 
-    fn next(&self, m: Mark) -> Option<Mark> {
-        Some(find(self.bytes, m)?.next)
+    fn next(&self, mut m: Mark) -> Option<Mark> {
+        find(self.bytes, &mut m)?.pass(&mut m);
+        Some(m)
     }
 
-    fn copy_text(&self, m: Mark, out: &mut [u8]) -> bool {
+    fn copy_text(&self, mut m: Mark, out: &mut [u8]) -> bool {
         // No `is_none_or`: what a closure wrote to `out` is not known after it.
-        match find(self.bytes, m) {
+        match find(self.bytes, &mut m) {
             Some(sight) => copy_front(sight.text(self.bytes), out),
             None => true,
         }

@@ -58,36 +58,29 @@ impl Mark {
         innermost.copied().unwrap_or(BLANK)
     }
 
-    // Another place inside the same holders.
-    pub(crate) fn moved(self, at: usize) -> Mark
-        ensures { result ≡ record { at = at; held = self.held; frames = self.frames } }
+    // Goes to another place inside the same holders.
+    pub(crate) fn go(&mut self, at: usize)
+        ensures { self.new ≡ record { at = at; held = self.old.held; frames = self.old.frames } }
     {
-        Mark { at, ..self }
+        self.at = at;
     }
 
-    // The same place, outside the innermost holder.
-    pub(crate) fn popped(self) -> Mark
-        requires { 0 < self.held }
-        ensures { result ≡ record { at = self.at; held = self.held - 1; frames = self.frames } }
+    // Leaves the innermost holder, at the same place.
+    pub(crate) fn pop(&mut self)
+        requires { 0 < self.old.held }
+        ensures { self.new ≡ record { at = self.old.at; held = self.old.held - 1; frames = self.old.frames } }
     {
-        Mark {
-            held: self.held - 1,
-            ..self
-        }
+        self.held -= 1;
     }
 
-    // The same holders, and one more inside them.
-    pub(crate) fn push(self, frame: Frame, at: usize) -> Mark
-        requires { self.held < 17 }
-        ensures place { result.at ≡ at }
-        ensures holders { stack result.frames result.held ≡ record { end = frame.end; spot = frame.spot } ∷ stack self.frames self.held }
+    // Enters one holder more, inside the others.
+    pub(crate) fn push(&mut self, frame: Frame, at: usize)
+        requires { self.old.held < 17 }
+        ensures place { self.new.at ≡ at }
+        ensures holders { stack self.new.frames self.new.held ≡ record { end = frame.end; spot = frame.spot } ∷ stack self.old.frames self.old.held }
     {
-        let mut frames = self.frames;
-        put_frame(&mut frames, usize::from(self.held), frame);
-        Mark {
-            at,
-            held: self.held + 1,
-            frames,
-        }
+        put_frame(&mut self.frames, usize::from(self.held), frame);
+        self.held += 1;
+        self.at = at;
     }
 }

@@ -165,12 +165,19 @@ impl Reader<'_> {
         ensures edge { Along self.old self.new }
         ensures moved { IfOk result (λ a. (self.new.at ≡ a) × (self.old.at ≤ a) × (a ≤ self.old.end)) }
     {
-        let Part { place, level, .. } = part;
-        let told = numbers(layout_of(part.kind).fields, self.bytes, self.at);
-        let inside = self
-            .fields_end(part.kind)
-            .ok_or(ReadFault::WrongSize { place, level })?;
-        told.ok_or(ReadFault::OffGlobe { place, level })?;
+        let Part {
+            place,
+            level,
+            kind,
+            ..
+        } = part;
+        let told = numbers(layout_of(kind).fields, self.bytes, self.at);
+        let Some(inside) = self.fields_end(kind) else {
+            return Err(ReadFault::WrongSize { place, level }); // before the globe
+        };
+        if told.is_none() {
+            return Err(ReadFault::OffGlobe { place, level });
+        }
         self.at = inside;
         Ok(inside)
     }

@@ -1,12 +1,13 @@
 // What is found at a mark of a container.
-ghost use Rattle.std.specs.Prelude.{◌≡◌, ◌+◌, ◌<◌, ◌≤◌, length as long, slice_index};
+ghost use Rattle.std.specs.Prelude.{◌≡◌, ℕ, ◌+◌, ◌<◌, ◌≤◌, List, length as long, slice_index};
 ghost use Rattle.std.specs.List.{slice_get};
 ghost use Rattle.grammar.specs.declared.table.Fields.TheVariants.{Text};
 ghost use Rattle.grammar.specs.Grammar.{Bytes};
 ghost use Rattle.grammar.specs.Offsets.{least};
 ghost use Rattle.grammar.specs.Walk.{language_at};
 ghost use Rattle.location.specs.Answers.{seen};
-ghost use Rattle.reader.specs.Seen.{Stepped, Sighted, StandingAt, FoundAt, Within, told_row};
+ghost use Rattle.reader.specs.Marks.{rows_at};
+ghost use Rattle.reader.specs.Seen.{Stepped, Sighted, StandingAt, FoundAt, Roomy, Within, rows_beyond, told_row};
 
 use super::edge::Reader;
 use super::marks::{Frame, MOST_HOLDERS, Mark};
@@ -16,27 +17,27 @@ use fields::numbers;
 use grammar::layout_of;
 use location::Row;
 
-// A row that a mark stands at: its component, and the mark of the rows after it.
+// A row where a mark stands: how deep it is, and its component.
 #[derive(Clone, Copy)]
 pub(crate) struct Sight {
     depth: u8,
     kind: u8,
     from: usize,
+    inside: usize,
     stop: usize,
-    pub(crate) next: Mark,
 }
 
-// What is found at a mark that is not the end: a row, or nothing yet but a mark further on with the same rows.
+// What is found at a mark that is not the end: a row, or nothing yet, and the mark went on to a place with the same rows.
 #[derive(Clone, Copy)]
 pub(crate) enum Step {
     Row(Sight),
-    Pass(Mark),
+    Pass,
 }
 
-// The known component at a mark, as a row.
-fn enter(bytes: &[u8], mark: Mark, frame: Frame, component: Component) -> Option<Sight>
-    requires { StandingAt bytes.now mark frame component }
-    ensures { Sighted bytes.now mark result }
+// The known component at a mark, as a row, if a mark has room for one holder more where parts may follow.
+fn enter(bytes: &[u8], mark: &Mark, frame: Frame, component: Component) -> Option<Sight>
+    requires { StandingAt bytes.now mark.now frame component }
+    ensures { Sighted bytes.now mark.now mark.now result }
 {
     let Component {
         kind,
@@ -44,34 +45,29 @@ fn enter(bytes: &[u8], mark: Mark, frame: Frame, component: Component) -> Option
         inside,
         stop,
     } = component;
-    let spot = layout_of(kind).inside;
-    let next = if spot.is_closed() {
-        mark.moved(stop)
-    } else if usize::from(mark.held) < MOST_HOLDERS {
-        mark.push(Frame { end: stop, spot }, inside)
-    } else {
+    if !layout_of(kind).inside.is_closed() && usize::from(mark.held) >= MOST_HOLDERS {
         return None;
-    };
+    }
     Some(Sight {
         depth: mark.held - 1,
         kind,
         from,
+        inside,
         stop,
-        next,
     })
 }
 
 // The known component `part`, at whose data the reader stands, as a row.
-fn look(mark: Mark, frame: Frame, reader: &Reader<'_>, part: Part) -> Option<Sight>
-    requires found { FoundAt mark frame reader.now part }
-    ensures { Sighted reader.now.bytes.now mark result }
+fn look(mark: &Mark, frame: Frame, reader: &Reader<'_>, part: Part) -> Option<Sight>
+    requires found { FoundAt mark.now frame reader.now part }
+    ensures { Sighted reader.now.bytes.now mark.now mark.now result }
 {
     enter(reader.bytes, mark, frame, keep(reader, part)?)
 }
 
-// What is found at a mark.
-fn take_step(bytes: &[u8], mark: Mark) -> Option<Step>
-    ensures { Stepped bytes.now mark result }
+// What is found at a mark. It is moved in its place, since it is too large to be copied at each step.
+fn take_step(bytes: &[u8], mark: &mut Mark) -> Option<Step>
+    ensures { Stepped bytes.now mark.old mark.new result }
 {
     if mark.held == 0 {
         return None;
@@ -81,7 +77,8 @@ fn take_step(bytes: &[u8], mark: Mark) -> Option<Step>
         return None;
     }
     if frame.end <= mark.at {
-        return Some(Step::Pass(mark.popped()));
+        mark.pop();
+        return Some(Step::Pass);
     }
     let mut reader = Reader {
         bytes,
@@ -89,20 +86,22 @@ fn take_step(bytes: &[u8], mark: Mark) -> Option<Step>
         end: frame.end,
     };
     match reader.open_part(frame.spot, 0).ok()? {
-        Some(part) => look(mark, frame, &reader, part).map(Step::Row),
-        None => Some(Step::Pass(mark.moved(reader.at))),
+        Some(part) => Some(Step::Row(look(mark, frame, &reader, part)?)),
+        None => {
+            mark.go(reader.at);
+            Some(Step::Pass)
+        }
     }
 }
 
-// The first row from a mark on.
-pub(crate) fn find(bytes: &[u8], mark: Mark) -> Option<Sight>
-    ensures { Sighted bytes.now mark result }
+// The first row from a mark on, to whose place the mark goes.
+pub(crate) fn find(bytes: &[u8], mark: &mut Mark) -> Option<Sight>
+    ensures { Sighted bytes.now mark.old mark.new result }
 {
-    let mut at = mark;
     loop {
-        match take_step(bytes, at)? {
+        match take_step(bytes, mark)? {
             Step::Row(sight) => return Some(sight),
-            Step::Pass(next) => at = next,
+            Step::Pass => {}
         }
     }
 }
@@ -118,6 +117,20 @@ fn language_of(bytes: &[u8], from: usize, stop: usize) -> u8
 }
 
 impl Sight {
+    // Moves a mark that stands at the row to the rows after it.
+    pub(crate) fn pass(&self, mark: &mut Mark)
+        requires { Roomy mark.old self.now }
+        ensures { (bs : List ℕ) → rows_at bs mark.new ≡ rows_beyond bs mark.old self.now }
+    {
+        let spot = layout_of(self.kind).inside;
+        if spot.is_closed() {
+            mark.go(self.stop);
+        } else {
+            let end = self.stop;
+            mark.push(Frame { end, spot }, self.inside);
+        }
+    }
+
     // The row that was found.
     pub(crate) fn row(&self, bytes: &[u8]) -> Row
         requires { Within bytes.now self.now }

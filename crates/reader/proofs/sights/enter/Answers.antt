@@ -1,48 +1,38 @@
-use Rattle.std.proofs.Common.{◌≡◌, ℕ, ◌-◌, true, false, leb, List, ◌∷◌, get_or, sym, refl, ap, ◌∙◌, subst, ap₂, arith, le-leb}
-use borrow.Author.Tests.{lt-leb}
+use Rattle.std.proofs.Common.{◌≡◌, ◌-◌, ◌<◌, false, leb, sym, refl, ap, ◌∙◌, subst, arith, le-leb}
+use borrow.Author.Tests.{clash}
 use Rattle.grammar.specs.declared.table.Layout.{Layout}
 use Rattle.grammar.specs.Format.{layout}
 use Rattle.grammar.specs.Reading.{closed}
-use Rattle.grammar.specs.Walk.{row_at, rows_from, Frame as Holder}
 use Rattle.grammar.proofs.Walked.{first_way, other_way}
-use Rattle.reader.specs.declared.marks.Mark.{Mark}
-use Rattle.reader.specs.Marks.{rows_at, stack}
-use Rattle.reader.proofs.Sighted.{after, rows_standing, Kept, kept}
+use Rattle.reader.proofs.Sighted.{after, rows_standing, rows_seen, Kept, kept}
 use Rattle.reader.proofs.sights.enter.Goals as goal
-use Rattle.reader.proofs.sights.enter.Goals.{then-is_closed, else-is_closed+then-from-lt-MOST_HOLDERS}
+use Rattle.reader.proofs.sights.enter.Goals.{else-not-is_closed-via-then-not-is_closed+else-from-ge-MOST_HOLDERS, else-not-is_closed-via-else-not-is_closed}
 
-pub returns-else-from-lt-MOST_HOLDERS : goal.returns-else-from-lt-MOST_HOLDERS
-returns-else-from-lt-MOST_HOLDERS c =
+pub returns-then-from-ge-MOST_HOLDERS : goal.returns-then-from-ge-MOST_HOLDERS
+returns-then-from-ge-MOST_HOLDERS c =
     let bs = c.args.bytes.now in
-    let m = c.args.mark in
+    let m = c.args.mark.now in
     let f = c.args.frame in
     let x = c.args.component in
     let o = c.requires.0 in
-    let s : closed (layout x.kind).inside ≡ false = ap (λ (l : Layout). closed l.inside) (sym c.layout_of-spot.ensures) ∙ sym c.if-is_closed.ensures in
+    let s : closed (layout x.kind).inside ≡ false = ap (λ (l : Layout). closed l.inside) (sym c.layout_of.ensures) ∙ sym c.is_closed.ensures ∙ c.if-not-is_closed.true in
     rows_standing bs m f o.0 o.1 o.2 o.3 ∙ ap (after bs m) (sym c.requires.1)
     ∙ other_way (closed (layout x.kind).inside) _ _ s (first_way (leb 17 m.held) _ _ (le-leb 17 m.held (omega arith)) refl)
 
 pub returns : goal.returns
 returns c =
     let bs = c.args.bytes.now in
-    let m = c.args.mark in
+    let m = c.args.mark.now in
     let f = c.args.frame in
     let x = c.args.component in
     let o = c.requires.0 in
     let k = subst (Kept bs m.at) (sym c.requires.1) (kept bs f.spot m.at f.end o.2 o.3) in
-    let here = rows_standing bs m f o.0 o.1 o.2 o.3 ∙ ap (after bs m) (sym c.requires.1) in (
-      elim c.if-is_closed.branch [
-        | then-is_closed w ↦
-            let s : closed (layout x.kind).inside ≡ true = ap (λ (l : Layout). closed l.inside) (sym c.layout_of-spot.ensures) ∙ sym w.if-is_closed.ensures in
-            here ∙ first_way (closed (layout x.kind).inside) _ _ s refl
-            ∙ ap (λ (n : Mark). row_at bs (get_or bs 0 0) (m.held - 1) x.kind x.from x.stop ∷ rows_at bs n) (sym (w.next-is ∙ w.moved-next.ensures))
-        | else-is_closed+then-from-lt-MOST_HOLDERS w ↦
-            let s : closed (layout x.kind).inside ≡ false = ap (λ (l : Layout). closed l.inside) (sym c.layout_of-spot.ensures) ∙ sym w.if-is_closed.ensures in
-            let held = w.push.ensures.holders ∙ ap (λ (l : Layout). record { end = x.stop; spot = l.inside } ∷ stack m.frames m.held) c.layout_of-spot.ensures in
-            here ∙ other_way (closed (layout x.kind).inside) _ _ s (other_way (leb 17 m.held) _ _ (lt-leb 17 m.held (omega (arith, w.from.ensures, w.if-from-lt-MOST_HOLDERS.true))) refl)
-            ∙ ap₂ (λ (i : ℕ) (hs : List Holder). row_at bs (get_or bs 0 0) (m.held - 1) x.kind x.from x.stop ∷ rows_from bs (get_or bs 0 0) hs i)
-            (sym w.push.ensures.place) (sym held)
-            ∙ ap (λ (n : Mark). row_at bs (get_or bs 0 0) (m.held - 1) x.kind x.from x.stop ∷ rows_at bs n) (sym w.next-is)
-      ],
-      record { fields = k.0; within = k.1; globe = k.2 },
-    )
+    let here = rows_standing bs m f o.0 o.1 o.2 o.3 ∙ ap (after bs m) (sym c.requires.1) in
+    let roomy : closed (layout x.kind).inside ≡ false → m.held < 17 =
+    λ s. elim c.else-not-is_closed.branch [
+      | else-not-is_closed-via-then-not-is_closed+else-from-ge-MOST_HOLDERS w ↦ omega (arith, w.from.ensures, w.if-from-ge-MOST_HOLDERS.false)
+      | else-not-is_closed-via-else-not-is_closed w ↦
+          absurd (clash (sym (sym w.if-not-is_closed.false ∙ c.is_closed.ensures ∙ ap (λ (l : Layout). closed l.inside) c.layout_of.ensures ∙ s)))
+    ]
+    in
+    (refl, (rows_seen bs m (record { depth = m.held - 1; kind = x.kind; from = x.from; inside = x.inside; stop = x.stop }) refl here roomy, roomy, record { fields = k.0; within = k.1; globe = k.2 }))

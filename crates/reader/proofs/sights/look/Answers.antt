@@ -19,13 +19,13 @@ stands m f r p x = stand_known r.bytes.now f.spot m.at f.end x.0.2 x.0.3 p.stop 
 pub enter-requires : goal.enter-requires
 enter-requires c = (
   c.requires.found.0,
-  ap (option_map Known) (sym c.in_ok-keep.was ∙ c.keep.ensures) ∙ stands c.args.mark c.args.frame c.args.reader.now c.args.part c.requires.found,
+  ap (option_map Known) (sym c.in_ok-keep.was ∙ c.keep.ensures) ∙ stands c.args.mark.now c.args.frame c.args.reader.now c.args.part c.requires.found,
 )
 
 pub returns-in_err-keep : goal.returns-in_err-keep
 returns-in_err-keep c =
     let bs = c.args.reader.now.bytes.now in
-    let m = c.args.mark in
+    let m = c.args.mark.now in
     let f = c.args.frame in
     let o = c.requires.found.0 in
     let e = ap (option_map Known) (sym c.in_err-keep.was ∙ c.keep.ensures) ∙ stands m f c.args.reader.now c.args.part c.requires.found in

@@ -10,9 +10,9 @@ onto f fs n = f ∷ stack fs n
 pub returns : goal.returns
 unfolding onto
 returns c =
-    let h : c.args.self.held + 1 ≡ suc c.from.result = omega arith in
+    let h : c.args.self.now.held + 1 ≡ suc c.from.result = omega arith in
     record {
       place = refl;
       holders = ap (stack c.put_frame.new.frames) h ∙ c.put_frame.ensures
-          ∙ ap (onto (record { end = c.args.frame.end; spot = c.args.frame.spot }) c.args.self.frames) c.from.ensures;
+          ∙ ap (onto (record { end = c.args.frame.end; spot = c.args.frame.spot }) c.args.self.now.frames) c.from.ensures;
     }
