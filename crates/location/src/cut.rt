@@ -38,21 +38,20 @@ fn is_inside(out: Option<u8>, depth: u8) -> bool
 impl Rule for Levels {
     ghost leaves = { λ s. cut s.0 };
 
-    fn settle<L: Location>(&self, below: &L, m: L::Mark) -> (L::Mark, Option<Row>) {
-        let mut at = m;
+    fn settle<L: Location>(&self, below: &L, m: &mut L::Mark) -> Option<Row> {
         let mut out = None;
         // Stepped by hand: past a row that stays, an iterator would ask for the next mark, and each layer below would pay for it again.
-        while let Some(row) = below.row(at) {
+        while let Some(row) = below.row(*m) {
             if !is_inside(out, row.depth) {
                 if !self.is_past(row) {
-                    return (at, Some(row));
+                    return Some(row);
                 }
                 out = Some(row.depth);
             }
-            let Some(next) = below.next(at) else { break };
-            at = next;
+            let Some(next) = below.next(*m) else { break };
+            *m = next;
         }
-        (at, None)
+        None
     }
 }
 

@@ -31,16 +31,15 @@ impl Language {
 impl Rule for Language {
     ghost leaves = { λ s. one_language s.0 };
 
-    fn settle<L: Location>(&self, below: &L, m: L::Mark) -> (L::Mark, Option<Row>) {
-        let mut at = m;
+    fn settle<L: Location>(&self, below: &L, m: &mut L::Mark) -> Option<Row> {
         // Stepped by hand: past a row that stays, an iterator would ask for the next mark, and each layer below would pay for it again.
-        while let Some(row) = below.row(at) {
+        while let Some(row) = below.row(*m) {
             if self.keeps(row) {
-                return (at, Some(row));
+                return Some(row);
             }
-            let Some(next) = below.next(at) else { break };
-            at = next;
+            let Some(next) = below.next(*m) else { break };
+            *m = next;
         }
-        (at, None)
+        None
     }
 }

@@ -11,16 +11,17 @@ pub trait Rule {
     // The rows that stay, of those from a mark on.
     ghost leaves: { Self → Rows → Rows };
 
-    // The mark of the first row from m on that stays, with that row; where none stays, the end.
-    fn settle<L: Location>(&self, below: &L, m: L::Mark) -> (L::Mark, Option<Row>)
-        ensures mark { SettledFrom (leaves self.now) (L.rows below.now m) (L.rows below.now result.0) }
-        ensures row { result.1 ≡ head_row (L.rows below.now result.0) };
+    // Moves a mark to the first row from there on that stays, which it gives; where none stays, to the end.
+    // The mark is moved in its place, since a mark may be large, and layers stand on layers.
+    fn settle<L: Location>(&self, below: &L, m: &mut L::Mark) -> Option<Row>
+        ensures mark { SettledFrom (leaves self.now) (L.rows below.now m.old) (L.rows below.now m.new) }
+        ensures row { result ≡ head_row (L.rows below.now m.new) };
 
-    // That mark alone. A rule that knows it without the row gives a body of its own.
-    fn settled<L: Location>(&self, below: &L, m: L::Mark) -> L::Mark
-        ensures { SettledFrom (leaves self.now) (L.rows below.now m) (L.rows below.now result) }
+    // Moves the mark alone. A rule that knows its place without the row gives a body of its own.
+    fn settled<L: Location>(&self, below: &L, m: &mut L::Mark)
+        ensures { SettledFrom (leaves self.now) (L.rows below.now m.old) (L.rows below.now m.new) }
     {
-        self.settle(below, m).0
+        self.settle(below, m);
     }
 }
 
@@ -49,27 +50,35 @@ impl<L: Location, R: Rule> Location for Layered<L, R> {
     ghost whole = { λ s. R.Rule.leaves s.rule (L.Location.whole s.below) };
 
     fn first(&self) -> L::Mark {
-        self.rule.settled(&self.below, self.below.first())
+        let mut m = self.below.first();
+        self.rule.settled(&self.below, &mut m);
+        m
     }
 
-    fn here(&self, m: L::Mark) -> bool {
-        self.rule.settle(&self.below, m).1.is_some()
+    fn here(&self, mut m: L::Mark) -> bool {
+        self.rule.settle(&self.below, &mut m).is_some()
     }
 
-    fn row(&self, m: L::Mark) -> Option<Row> {
-        self.rule.settle(&self.below, m).1
+    fn row(&self, mut m: L::Mark) -> Option<Row> {
+        self.rule.settle(&self.below, &mut m)
     }
 
-    fn byte(&self, m: L::Mark, i: usize) -> Option<u8> {
-        self.below.byte(self.rule.settled(&self.below, m), i)
+    fn byte(&self, mut m: L::Mark, i: usize) -> Option<u8> {
+        self.rule.settled(&self.below, &mut m);
+        self.below.byte(m, i)
     }
 
-    fn next(&self, m: L::Mark) -> Option<L::Mark> {
-        let n = self.below.next(self.rule.settled(&self.below, m))?;
-        Some(self.rule.settled(&self.below, n))
+    fn next(&self, mut m: L::Mark) -> Option<L::Mark> {
+        self.rule.settled(&self.below, &mut m);
+        let mut next = self.below.next(m);
+        if let Some(n) = &mut next {
+            self.rule.settled(&self.below, n);
+        }
+        next
     }
 
-    fn copy_text(&self, m: L::Mark, out: &mut [u8]) -> bool {
-        self.below.copy_text(self.rule.settled(&self.below, m), out)
+    fn copy_text(&self, mut m: L::Mark, out: &mut [u8]) -> bool {
+        self.rule.settled(&self.below, &mut m);
+        self.below.copy_text(m, out)
     }
 }

@@ -20,17 +20,17 @@ pub enum Layer {
 impl Rule for Layer {
     ghost leaves = { left_by };
 
-    fn settle<L: Location>(&self, below: &L, m: L::Mark) -> (L::Mark, Option<Row>) {
+    fn settle<L: Location>(&self, below: &L, m: &mut L::Mark) -> Option<Row> {
         match *self {
-            Layer::All => (m, below.row(m)),
+            Layer::All => below.row(*m),
             Layer::Language(language) => Language(language).settle(below, m),
             Layer::Cut(levels) => Levels(levels).settle(below, m),
         }
     }
 
-    fn settled<L: Location>(&self, below: &L, m: L::Mark) -> L::Mark {
+    fn settled<L: Location>(&self, below: &L, m: &mut L::Mark) {
         match *self {
-            Layer::All => m,
+            Layer::All => {}
             Layer::Language(language) => Language(language).settled(below, m),
             Layer::Cut(levels) => Levels(levels).settled(below, m),
         }

@@ -4,7 +4,7 @@ use Rattle.location.proofs.language.LanguageRule.settle.Given as goal
 
 abbrev pub invariant-loop-row : goal.invariant-loop-row
 invariant-loop-row g l =
-    one_language l.self.0 (g.L.Location.rows l.below l.at) ≡ one_language l.self.0 (g.L.Location.rows l.below l.initial.at)
+    one_language l.self.0 (g.L.Location.rows l.below l.m) ≡ one_language l.self.0 (g.L.Location.rows l.below l.initial.m)
 
 abbrev pub decreases-loop-row : goal.decreases-loop-row
-decreases-loop-row g l = length (g.L.Location.rows l.below l.at)
+decreases-loop-row g l = length (g.L.Location.rows l.below l.m)
