@@ -14,7 +14,7 @@ use Rattle.grammar.specs.Choice.{bare_size}
 use Rattle.grammar.proofs.Lines.{fixed_by_fields}
 use Rattle.grammar.proofs.Flattened.{column_width}
 use Rattle.location.specs.declared.Row.{Row}
-use Rattle.location.specs.Answers.{seen}
+use Rattle.location.specs.Answers.{seen, head_row, head_text}
 use Rattle.sender.proofs.Laid.{fields_long}
 use Rattle.sender.specs.Heads.{language_long, front_long, own_long, counted_in, as_byte, inside_rows, inside_long, right_in}
 use Rattle.sender.proofs.Spliced.{width_few}
@@ -25,6 +25,11 @@ seen_is row x e = cc
 
 pub no_row : (row : Row) → ◌≡◌ {A = Option Row} (Some row) None → ⊥
 no_row row e = let z : ◌≡◌ {A = ℕ} 0 1 = cc in omega arith
+
+-- of the text there the length is seen
+pub text_long : (xs : Rows) (row : Row) → Some row ≡ head_row xs → row.length ≡ length (head_text xs)
+text_long [] row e = absurd (no_row row e)
+text_long (x ∷ xs) row e = ap (λ (r : Row). r.length) (seen_is row x e)
 
 -- the front's length
 abbrev front_by : Bool → ℕ → Told → ℕ → List ℕ

@@ -1,4 +1,4 @@
-// Looks ahead: how many bytes and how many parts stand inside a row's component.
+// Looks ahead: how many bytes and how many parts stand inside a row's component. A row's line of the table of kinds is looked up once and handed on.
 ghost use Rattle.std.specs.Prelude.{◌≡◌, ℕ, ◌≤◌};
 ghost use Rattle.std.specs.Iterator.{YieldsFirst, item_count};
 ghost use Rattle.grammar.specs.Format.{layout};
@@ -6,7 +6,7 @@ ghost use Rattle.grammar.specs.Reading.{is_count};
 ghost use Rattle.grammar.specs.Flat.{held_count};
 ghost use Rattle.sender.specs.Heads.{language_long, front_long, own_long, counted_in, as_byte, inside_rows, inside_long, inside_left};
 
-use grammar::layout_of;
+use grammar::{Layout, layout_of};
 use location::{Location, Row, Step};
 
 // The bytes of the part that says a text's language.
@@ -24,22 +24,22 @@ fn language_size(language: u8, default: u8) -> usize
 }
 
 // The bytes of a row's component between its header and its parts.
-pub(crate) fn front_size(row: Row, default: u8) -> usize
+pub(crate) fn front_size(line: Layout, row: Row, default: u8) -> usize
+    requires { line ≡ layout row.kind }
     ensures { result ≡ front_long default row }
 {
-    let layout = layout_of(row.kind);
-    if layout.is_text() {
+    if line.is_text() {
         return 1 + usize::from(row.length) + language_size(row.language, default);
     }
-    usize::from(layout.fixed)
+    usize::from(line.fixed)
 }
 
 // The bytes of a row's component without its parts.
-pub(crate) fn own_size(row: Row, default: u8) -> usize
+pub(crate) fn own_size(line: Layout, row: Row, default: u8) -> usize
+    requires { line ≡ layout row.kind }
     ensures { result ≡ own_long default row }
 {
-    let width = usize::from(layout_of(row.kind).width);
-    1 + width + front_size(row, default)
+    1 + usize::from(line.width) + front_size(line, row, default)
 }
 
 // Goes over the rows that are deeper than a depth, up to the first that is not.
@@ -83,7 +83,9 @@ pub(crate) fn inside_size<L: Location>(l: &L, step: &Step<L::Mark>, default: u8)
     requires { inside_long default step.now.row.depth (L.rows l.now step.now.rest) ≤ 65535 }
     ensures { result ≡ inside_long default step.now.row.depth (L.rows l.now step.now.rest) }
 {
-    rows_inside(l, step).map(|row| own_size(row, default)).sum()
+    rows_inside(l, step)
+        .map(|row| own_size(layout_of(row.kind), row, default))
+        .sum()
 }
 
 // How many of them stand right in the row, if a byte can say it.
@@ -100,10 +102,11 @@ fn held_count<L: Location>(l: &L, step: &Step<L::Mark>) -> Option<u8>
 }
 
 // The same where the fields of the row's kind count its parts, and none where they do not.
-pub(crate) fn counted_parts<L: Location>(l: &L, step: &Step<L::Mark>) -> Option<u8>
+pub(crate) fn counted_parts<L: Location>(l: &L, line: Layout, step: &Step<L::Mark>) -> Option<u8>
+    requires { line ≡ layout step.now.row.kind }
     ensures { result ≡ as_byte (counted_in (is_count (layout step.now.row.kind).fields) (held_count step.now.row.depth (L.rows l.now step.now.rest))) }
 {
-    if layout_of(step.row.kind).counts_nodes() {
+    if line.counts_nodes() {
         held_count(l, step)
     } else {
         Some(0)

@@ -61,9 +61,10 @@ fn put_row<L: Location>(l: &L, step: &Step<L::Mark>, default: u8, pen: &mut Pen)
     ensures { Wrote pen.old (head_bytes default (L.rows l.now step.now.mark)) pen.new }
 {
     let row = step.row;
+    let line = layout_of(row.kind);
     let inside = inside_size(l, step, default);
-    let held = counted_parts(l, step).unwrap_or(0);
-    pen.header(row.kind, front_size(row, default) + inside);
+    let held = counted_parts(l, line, step).unwrap_or(0);
+    pen.header(row.kind, front_size(line, row, default) + inside);
     put_front(l, step, default, held, pen);
 }
 

@@ -13,7 +13,7 @@ use crate::FRAME;
 use crate::look::{LANGUAGE_PART, counted_parts, own_size};
 use arrayvec::ArrayVec;
 use fields::{fits_numbers, is_zero};
-use grammar::{Spot, layout_of};
+use grammar::{Layout, Spot, layout_of};
 use location::{Location, Row, Step, steps_of};
 
 // What one look over the rows finds.
@@ -52,78 +52,79 @@ fn limit(spot: Spot) -> usize
 }
 
 // A text, with so many bytes more in its component, is too long for the component's length.
-fn is_long(row: Row, more: usize) -> bool
-    requires { more ≤ 4 }
+fn is_long(line: Layout, row: Row, more: usize) -> bool
+    requires line { line ≡ layout row.kind }
+    requires few { more ≤ 4 }
     ensures { result ≡ long_by row more }
 {
-    let layout = layout_of(row.kind);
-    layout.is_text() && limit(layout.holder) <= usize::from(row.length) + more
+    line.is_text() && limit(line.holder) <= usize::from(row.length) + more
 }
 
 // The row tells only what one of its kind tells.
-fn is_plain(row: Row) -> bool
+fn is_plain(line: Layout, row: Row) -> bool
+    requires { line ≡ layout row.kind }
     ensures { result ≡ plain_by row }
 {
-    let layout = layout_of(row.kind);
-    if layout.is_text() {
+    if line.is_text() {
         is_zero(row.a) && is_zero(row.b)
     } else {
-        fits_numbers(layout.fields, row.a, row.b) && row.language == 0 && row.length == 0
+        fits_numbers(line.fields, row.a, row.b) && row.language == 0 && row.length == 0
     }
 }
 
 // The row may stand in the holder, if it has not too many parts.
-fn stands_within(holder: Open, row: Row, few: bool) -> bool
+fn stands_within(holder: Open, line: Layout, row: Row, few: bool) -> bool
+    requires { line ≡ layout row.kind }
     ensures { result ≡ stands_in holder row few }
 {
-    let layout = layout_of(row.kind);
-    holder.spot.is_kind(layout.id, row.kind)
-        && is_plain(row)
-        && layout.inside.deeper(holder.nodes) <= 8
+    holder.spot.is_kind(line.id, row.kind)
+        && is_plain(line, row)
+        && line.inside.deeper(holder.nodes) <= 8
         && few
 }
 
 // The row may stand at its depth, where these holders are open.
-fn stands_at(holders: &ArrayVec<Open, MOST_OPEN>, row: Row, few: bool) -> bool
+fn stands_at(holders: &ArrayVec<Open, MOST_OPEN>, line: Layout, row: Row, few: bool) -> bool
+    requires { line ≡ layout row.kind }
     ensures { result ≡ (nat_lt row.depth (long holders.now.items) && stands_in (slice_index_or holders.now.items row.depth blank_open) row few) }
 {
     holders
         .get(usize::from(row.depth))
-        .is_some_and(|holder| stands_within(*holder, row, few))
+        .is_some_and(|holder| stands_within(*holder, line, row, few))
 }
 
 // Leaves the holders that a row is not in, and opens the row itself if parts may follow.
-fn open_row(holders: &mut ArrayVec<Open, MOST_OPEN>, row: Row)
+fn open_row(holders: &mut ArrayVec<Open, MOST_OPEN>, line: Layout, row: Row)
+    requires line { line ≡ layout row.kind }
     requires within { row.depth < long holders.old.items }
     requires eight { (get_or holders.old.items row.depth blank_open).nodes ≤ 8 }
     requires room { shut row ≡ false → suc row.depth < 17 }
     ensures { Opened (shut row) holders.old.items row holders.new.items }
 {
     let at = usize::from(row.depth);
-    let inside = layout_of(row.kind).inside;
+    let spot = line.inside;
     holders.truncate(at + 1);
-    if !layout_of(row.kind).is_text() && !inside.is_closed() {
-        let nodes = inside.deeper(holders[at].nodes) as u8;
-        holders.push(Open {
-            spot: inside,
-            nodes,
-        });
+    if !line.is_text() && !spot.is_closed() {
+        let nodes = spot.deeper(holders[at].nodes) as u8;
+        holders.push(Open { spot, nodes });
     }
 }
 
 // Fewer than 256 parts stand right in the row, where they are counted.
-fn few_parts<L: Location>(l: &L, step: &Step<L::Mark>) -> bool
+fn few_parts<L: Location>(l: &L, line: Layout, step: &Step<L::Mark>) -> bool
+    requires { line ≡ layout step.now.row.kind }
     ensures { result ≡ (not (is_count (layout step.now.row.kind).fields) || nat_lt (held_count step.now.row.depth (L.rows l.now step.now.rest)) 256) }
 {
-    counted_parts(l, step).is_some()
+    counted_parts(l, line, step).is_some()
 }
 
 // The text there is bytes: it can be copied.
-fn read_text<L: Location>(l: &L, m: L::Mark, row: Row)
-    requires { row.length ≡ long (head_text (L.rows l.now m)) }
+fn read_text<L: Location>(l: &L, m: L::Mark, line: Layout, row: Row)
+    requires line { line ≡ layout row.kind }
+    requires length { row.length ≡ long (head_text (L.rows l.now m)) }
     ensures { is_text (layout row.kind).fields ≡ true → Bytes (head_text (L.rows l.now m)) }
 {
-    if layout_of(row.kind).is_text() {
+    if line.is_text() {
         let mut copied = [0u8; 255];
         l.copy_text(m, &mut copied);
     }
@@ -131,35 +132,37 @@ fn read_text<L: Location>(l: &L, m: L::Mark, row: Row)
 
 impl Sums {
     // The sums with one more row, if some default can still serve.
-    fn with(self, row: Row) -> Option<Sums>
-        requires { (self.base ≤ 65531) × (self.texts ≤ self.base) }
+    fn with(self, line: Layout, row: Row) -> Option<Sums>
+        requires line { line ≡ layout row.kind }
+        requires few { (self.base ≤ 65531) × (self.texts ≤ self.base) }
         ensures { Added self row result }
     {
         // the byte of its length is there in any case
-        if is_long(row, 1) {
+        if is_long(line, row, 1) {
             return None;
         }
-        let tight = is_long(row, 1 + LANGUAGE_PART);
+        let tight = is_long(line, row, 1 + LANGUAGE_PART);
         if tight && !self.must.is_none_or(|m| m == row.language) {
             return None;
         }
-        let base = self.base + own_size(row, row.language);
+        let base = self.base + own_size(line, row, row.language);
         if base > LONGEST - FRAME {
             return None;
         }
-        let texts = self.texts + usize::from(layout_of(row.kind).is_text());
+        let texts = self.texts + usize::from(line.is_text());
         let must = if tight { Some(row.language) } else { self.must };
         Some(Sums { base, texts, must })
     }
 }
 
 // Counts a text in its language.
-fn count_text(tally: &mut [u32], row: Row)
+fn count_text(tally: &mut [u32], line: Layout, row: Row)
+    requires line { line ≡ layout row.kind }
     requires all { long tally.old ≡ 256 }
     requires room { slice_index tally.old row.language < 65536 }
     ensures { (k : ℕ) → slice_index tally.new k ≡ counts (is_text (layout row.kind).fields) (row.language == k) (slice_index tally.old k) }
 {
-    if layout_of(row.kind).is_text() {
+    if line.is_text() {
         tally[usize::from(row.language)] += 1;
     }
 }
@@ -181,14 +184,15 @@ fn take_survey<L: Location>(l: &L) -> Option<Survey>
     let mut tally = [0u32; 256];
     for step in steps_of(l) {
         let row = step.row;
-        let few = few_parts(l, &step);
-        if !stands_at(&holders, row, few) {
+        let line = layout_of(row.kind);
+        let few = few_parts(l, line, &step);
+        if !stands_at(&holders, line, row, few) {
             return None;
         }
-        read_text(l, step.mark, row);
-        sums = sums.with(row)?;
-        open_row(&mut holders, row);
-        count_text(&mut tally, row);
+        read_text(l, step.mark, line, row);
+        sums = sums.with(line, row)?;
+        open_row(&mut holders, line, row);
+        count_text(&mut tally, line, row);
     }
     Some(Survey { sums, tally })
 }

@@ -1,8 +1,9 @@
 use Rattle.std.proofs.Common.{◌≡◌, ◌<◌, ◌++◌, [], ◌∷◌, List, length, ap, ◌∙◌, arith, rules, subst, sym}
 use Rattle.grammar.specs.Grammar.{Rows, Bytes}
-use Rattle.location.specs.Answers.{head_text}
+use Rattle.location.specs.Answers.{head_row, head_text}
 use Rattle.location.specs.Steps.{steps_left}
 use Rattle.sender.specs.declared.survey.Open.{Open}
+use Rattle.sender.proofs.Looked.{text_long}
 use Rattle.sender.proofs.Headed.{lent_rows}
 use Rattle.sender.proofs.Underway.{Underway, start, top_open}
 use Rattle.sender.proofs.Turned.{turned_off, turned_away, room_inside, turned}
@@ -24,6 +25,12 @@ returns-then-not-stands_at g c =
     let k = c.loop-step.invariant in
     turned_away _ _ _ _ _ _ c.in-Some.step.row k.3 t.0 (lent_rows g.L.Location.rows _ _ c.in-Some.step.rest _ k.2 t.1.1)
     c.few_parts-few.result c.stands_at.result c.few_parts-few.ensures c.stands_at.ensures c.if-not-stands_at.true
+
+pub read_text-requires-clause-length : goal.read_text-requires-clause-length
+read_text-requires-clause-length g c =
+    let t = c.in-Some.ensures.steps in
+    let k = c.loop-step.invariant in
+    text_long _ c.in-Some.step.row (t.0 ∙ ap head_row (sym (lent_rows g.L.Location.rows _ _ c.in-Some.step.mark _ k.2 t.1.0)))
 
 pub returns-in_err-sums : goal.returns-in_err-sums
 returns-in_err-sums g c =

@@ -6,4 +6,4 @@ pub overflow_add-base : goal.overflow_add-base
 overflow_add-base c =
     let h : c.args.row.length < 256 = search rules in
     let s = own_small c.args.row.language c.args.row h in
-    omega (arith, c.own_size.ensures, c.requires.0)
+    omega (arith, c.own_size.ensures, c.requires.few.0)
