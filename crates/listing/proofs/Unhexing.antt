@@ -1,10 +1,9 @@
 -- Hexadecimal text, character by character.
-use Rattle.std.proofs.Common.{◌≡◌, ℕ, ◌+◌, ◌*◌, ◌/◌, ◌%◌, ◌<◌, ◌==◌, Bool, true, false, not, cond, T, eqb, List, [], ◌∷◌, ◌++◌, length, Some, None, Option, Ok, Err, Result, sym, refl, ap, ◌∙◌, ap₂, div-add-mod', arith, eqb→eq}
+use Rattle.std.proofs.Common.{◌≡◌, ℕ, ◌+◌, ◌*◌, ◌/◌, ◌%◌, ◌<◌, ◌==◌, Bool, true, false, not, cond, T, eqb, List, [], ◌∷◌, ◌++◌, Some, None, Option, sym, refl, ap, ◌∙◌, ap₂, append_assoc, append-nil, div-add-mod', arith, eqb→eq}
 use Rattle.std.specs.List.{filter}
-use Rattle.std.proofs.lemmas.Bool.{eqb-true}
-use Rattle.hex.specs.Hex.{decode_of, decode_pairs, digit_or_error, hex_digit_value, ◌>>=◌}
-use Rattle.hex.specs.declared.error.FromHexError.{FromHexError}
-use Rattle.hex.specs.declared.error.FromHexError.TheVariants.{OddLength}
+use Rattle.std.specs.Iterator.{AlwaysYields}
+use Rattle.std.specs.Option.{MatchOption}
+use Rattle.std.proofs.lemmas.Iterator.{YieldsList}
 use Rattle.grammar.proofs.Lines.{below_at}
 use Rattle.listing.specs.Listed.{hex_digit, hex, hexes}
 use Rattle.listing.specs.Unhexed.{digit_of, on_character, unhex_from, unhex, put_first, ReadsBack}
@@ -31,54 +30,85 @@ unblank [] None = refl
 unblank [] (Some h) = refl
 unblank (c ∷ cs) high = keep c (unblanked cs) (c == 32) (digit_of c) high (unhex_from cs) (unblank cs) refl
 
--- the bytes that were decoded, whatever the error
-abbrev pub decoded : Result (List ℕ) FromHexError → Option (List ℕ)
-decoded (Ok bytes) = Some bytes
-decoded (Err e) = None
+-- bytes before those of a text, where it has any
+abbrev pub put_before : List ℕ → Option (List ℕ) → Option (List ℕ)
+put_before xs None = None
+put_before xs (Some ys) = Some (xs ++ ys)
 
-put_read : (b : ℕ) (r : Result (List ℕ) FromHexError) → decoded (r >>= (λ bytes. Ok (b ∷ bytes))) ≡ put_first b (decoded r)
-put_read b (Ok bytes) = refl
-put_read b (Err e) = refl
+before_none : (o : Option (List ℕ)) → o ≡ put_before [] o
+before_none None = refl
+before_none (Some ys) = refl
 
-same_digit : (c : ℕ) → digit_of c ≡ hex_digit_value c
-same_digit c = grind arith
+before_first : (xs : List ℕ) (b : ℕ) (o : Option (List ℕ)) → put_before xs (put_first b o) ≡ put_before (xs ++ b ∷ []) o
+before_first xs b None = refl
+before_first xs b (Some ys) = ap Some (sym (append_assoc xs (b ∷ []) ys))
 
-lone : (u : Option ℕ) → on_character false u None (pairs []) ≡ None
-lone None = refl
-lone (Some d) = refl
+no_first : (c : ℕ) (out more : List ℕ) → None ≡ digit_of c → put_before out (pairs (c ∷ more) None) ≡ None
+no_first c out more n = ap (λ (o : Option ℕ). put_before out (on_character false o None (pairs more))) (sym n)
 
-one_pair : (c d : ℕ) (u v : Option ℕ) (i : ℕ) (r : Result (List ℕ) FromHexError) (rest : Option ℕ → Option (List ℕ)) → rest None ≡ decoded r
-    → on_character false u None (λ high. on_character false v high rest)
-    ≡ decoded ((digit_or_error c i u >>= (λ h. digit_or_error d (i + 1) v >>= (λ l. Ok (h * 16 + l)))) >>= (λ byte. r >>= (λ bytes. Ok (byte ∷ bytes))))
-one_pair c d None v i r rest e = refl
-one_pair c d (Some h) None i r rest e = refl
-one_pair c d (Some h) (Some l) i r rest e = ap (put_first (h * 16 + l)) e ∙ sym (put_read (h * 16 + l) r)
+no_second : (c h : ℕ) (out : List ℕ) → Some h ≡ digit_of c → put_before out (pairs (c ∷ []) None) ≡ None
+no_second c h out e = ap (λ (o : Option ℕ). put_before out (on_character false o None (pairs []))) (sym e)
 
-by_pairs : (i : ℕ) (xs : List ℕ) → pairs xs None ≡ decoded (decode_pairs i xs)
-unfolding decode_pairs
-by_pairs i [] = refl
-by_pairs i (c ∷ []) = lone (digit_of c)
-by_pairs i (c ∷ d ∷ cs) =
-    ap₂ (λ (u v : Option ℕ). on_character false u None (λ high. on_character false v high (pairs cs))) (same_digit c) (same_digit d)
-    ∙ one_pair c d (hex_digit_value c) (hex_digit_value d) i (decode_pairs (i + 2) cs) (pairs cs) (by_pairs (i + 2) cs)
+bad_second : (c d h : ℕ) (out more : List ℕ) → Some h ≡ digit_of c → None ≡ digit_of d → put_before out (pairs (c ∷ d ∷ more) None) ≡ None
+bad_second c d h out more e n =
+    ap₂ (λ (o p : Option ℕ). put_before out (on_character false o None (λ high. on_character false p high (pairs more)))) (sym e) (sym n)
 
-odd_pair : (u v : Option ℕ) (rest : Option ℕ → Option (List ℕ)) → rest None ≡ None → on_character false u None (λ high. on_character false v high rest) ≡ None
-odd_pair None v rest e = refl
-odd_pair (Some h) None rest e = refl
-odd_pair (Some h) (Some l) rest e = ap (put_first (h * 16 + l)) e
+one_pair : (c d h l : ℕ) (out more : List ℕ) → Some h ≡ digit_of c → Some l ≡ digit_of d
+    → put_before out (pairs (c ∷ d ∷ more) None) ≡ put_before (out ++ (h * 16 + l) ∷ []) (pairs more None)
+one_pair c d h l out more e f =
+    ap₂ (λ (o p : Option ℕ). put_before out (on_character false o None (λ high. on_character false p high (pairs more)))) (sym e) (sym f)
+    ∙ before_first out (h * 16 + l) (pairs more None)
 
-odd : (xs : List ℕ) → length xs % 2 ≡ 1 → pairs xs None ≡ None
-odd [] h = absurd (omega arith)
-odd (c ∷ []) h = lone (digit_of c)
-odd (c ∷ d ∷ cs) h = odd_pair (digit_of c) (digit_of d) (pairs cs) (odd cs (omega arith))
+module _ {S : Type 0} (steps : S → Option ℕ → S → Type 0) where
+  -- what is read of a text, and what an iterator still gives of it, are its bytes
+  abbrev pub IsReadTo : List ℕ → List ℕ → S → Type 0
+  IsReadTo text out s = (rest : List ℕ) × AlwaysYields steps (λ x. x) s rest × (unhex text ≡ put_before out (pairs rest None))
 
-by_length : (b : Bool) (xs : List ℕ) → eqb (length xs % 2) 1 ≡ b → pairs xs None ≡ decoded (cond b (Err OddLength) (decode_pairs 0 xs))
-by_length true xs e = odd xs (eqb-true (length xs % 2) 1 e)
-by_length false xs e = by_pairs 0 xs
+  pub read_none : (text : List ℕ) (s : S) → YieldsList steps (λ x. x) s (unblanked text) → IsReadTo text [] s
+  read_none text s y = (unblanked text, y.runs, unblank text None ∙ before_none (pairs (unblanked text) None))
 
--- a text is read as its digits are decoded
-pub unhex_decodes : (text : List ℕ) → unhex text ≡ decoded (decode_of (unblanked text))
-unhex_decodes text = unblank text None ∙ by_length (eqb (length (unblanked text) % 2) 1) (unblanked text) refl
+  ended : (s t : S) (rest : List ℕ) → AlwaysYields steps (λ x. x) s rest → steps s None t → rest ≡ []
+  ended s t [] y n = refl
+  ended s t (x ∷ xs) y n = absurd (y.0 t n)
+
+  taken : (s t : S) (c : ℕ) (rest : List ℕ) → AlwaysYields steps (λ x. x) s rest → steps s (Some c) t → (more : List ℕ) × (rest ≡ c ∷ more) × AlwaysYields steps (λ x. x) t more
+  taken s t c [] y one = absurd (y c t one)
+  taken s t c (x ∷ xs) y one = let q = y.1 c t one in (xs, ap (λ z. z ∷ xs) (sym q.0), q.1)
+
+  module _ (text out : List ℕ) (s t : S) (r : IsReadTo text out s) where
+    -- no digit is left
+    pub read_all : steps s None t → unhex text ≡ Some out
+    read_all n = r.2 ∙ ap (λ (ys : List ℕ). put_before out (pairs ys None)) (ended s t r.0 r.1 n) ∙ ap Some (append-nil out)
+
+    module _ (c : ℕ) (one : steps s (Some c) t) where
+      -- what comes is no digit
+      pub read_bad : None ≡ digit_of c → unhex text ≡ None
+      read_bad n =
+          let a = taken s t c r.0 r.1 one in
+          r.2 ∙ ap (λ (ys : List ℕ). put_before out (pairs ys None)) a.1 ∙ no_first c out a.0 n
+
+      module _ (h : ℕ) (e : Some h ≡ digit_of c) (u : S) (P : ℕ → Type 0) (r' : Option ℕ) (same : (d : ℕ) → P d → r' ≡ digit_of d) where
+        -- no digit comes after a digit
+        pub read_half : (o : Option ℕ) → steps t o u → MatchOption o (r' ≡ None) P → r' ≡ None → unhex text ≡ None
+        read_half None two p n =
+            let a = taken s t c r.0 r.1 one in
+            r.2 ∙ ap (λ (ys : List ℕ). put_before out (pairs ys None)) (a.1 ∙ ap (λ (ys : List ℕ). c ∷ ys) (ended t u a.0 a.2 two)) ∙ no_second c h out e
+        read_half (Some d) two p n =
+            let a = taken s t c r.0 r.1 one in
+            let b = taken t u d a.0 a.2 two in
+            r.2 ∙ ap (λ (ys : List ℕ). put_before out (pairs ys None)) (a.1 ∙ ap (λ (ys : List ℕ). c ∷ ys) b.1) ∙ bad_second c d h out b.0 e (sym n ∙ same d p)
+
+        -- two digits make a byte
+        pub read_pair : (o : Option ℕ) → steps t o u → MatchOption o (r' ≡ None) P → (l : ℕ) (new : List ℕ) → r' ≡ Some l → new ≡ out ++ (h * 16 + l) ∷ [] → IsReadTo text new u
+        read_pair None two p l new f g = let z : ◌≡◌ {A = ℕ} 0 1 = cc in absurd (omega arith)
+        read_pair (Some d) two p l new f g =
+            let a = taken s t c r.0 r.1 one in
+            let b = taken t u d a.0 a.2 two in (
+              b.0,
+              b.2,
+              r.2 ∙ ap (λ (ys : List ℕ). put_before out (pairs ys None)) (a.1 ∙ ap (λ (ys : List ℕ). c ∷ ys) b.1) ∙ one_pair c d h l out b.0 e (sym f ∙ same d p)
+                  ∙ ap (λ (ys : List ℕ). put_before ys (pairs b.0 None)) (sym g),
+            )
 
 -- each digit that is written is no blank, and has its value
 abbrev says : ℕ → Option ℕ → Bool

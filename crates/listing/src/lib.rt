@@ -8,7 +8,7 @@ ghost use Rattle.reader.specs.Whole.{rows_of};
 ghost use Rattle.listing.specs.Listed.{first_line, row_count, listed, no_line, refused, shown};
 
 use grammar::Refusal;
-use location::{Location, Row, rows_of, steps_of};
+use location::{Location, Row, steps_of};
 use reader::Container;
 use std::alloc::{AllocError, Global};
 
@@ -34,17 +34,21 @@ fn push_line<L: Location>(out: &mut String, l: &L, at: L::Mark, row: Row) -> Res
         length,
     } = row;
     let mut room = [0u8; 255];
-    l.copy_text(at, &mut room);
+    if length > 0 {
+        l.copy_text(at, &mut room);
+    }
     let text = HexOrDash(&room[..usize::from(length)]);
     write!(out, "{depth} {kind} {a} {b} {language} {text}\n")
 }
 
-// How many rows a location has, as far as 64 bits count; `count()` would ask that they fit.
+// How many rows a location has, as far as 64 bits count.
 pub fn count_rows<L: Location>(l: &L) -> u64
     ensures { result ≡ row_count (L.whole l.now) }
 {
     let mut count: u64 = 0;
-    for _ in rows_of(l) {
+    let mut at = l.first();
+    while let Some(next) = l.next(at) {
+        at = next;
         count = count.saturating_add(1);
     }
     count

@@ -1,8 +1,24 @@
 // Bytes as the lines print them.
-ghost use Rattle.std.specs.Prelude.{Some};
+ghost use Rattle.std.specs.Prelude.{◌≡◌, ◌*◌, length, Some};
+ghost use Rattle.std.specs.Str.{IsUtf8};
 ghost use Rattle.listing.specs.Listed.{hexes, text_line};
 
-use std::fmt;
+use std::{fmt, str};
+
+// How many bytes are printed at once.
+const PART: usize = 64;
+
+// Puts the digits of bytes in places, two for each byte.
+fn put_digits(bytes: &[u8], places: &mut [u8])
+    requires { length places.old ≡ 2 * length bytes.now }
+    ensures digits { places.new ≡ hexes bytes.now }
+    ensures text { IsUtf8 places.new }
+{
+    let Ok(()) = hex::encode_to_slice(bytes, places) else {
+        unreachable!();
+    };
+    places.make_ascii_uppercase();
+}
 
 // Prints two digits for each byte.
 #[derive(Clone, Copy)]
@@ -12,8 +28,14 @@ impl fmt::Display for Hex<'_> {
     ghost output = { λ h. Some (hexes h.0.now) };
 
     fn fmt<W: fmt::Write>(&self, f: &mut fmt::Formatter<W>) -> fmt::Result {
-        for &byte in self.0 {
-            write!(f, "{byte:02X}")?;
+        let mut room = [0u8; 2 * PART];
+        for part in self.0.chunks(PART) {
+            let digits = &mut room[..2 * part.len()];
+            put_digits(part, digits);
+            let Ok(text) = str::from_utf8(digits) else {
+                unreachable!();
+            };
+            f.write_str(text)?;
         }
         Ok(())
     }
