@@ -41,7 +41,7 @@ fn push_line<L: Location>(out: &mut String, l: &L, at: L::Mark, row: Row) -> Res
     write!(out, "{depth} {kind} {a} {b} {language} {text}\n")
 }
 
-// How many rows a location has, as far as 64 bits count.
+// How many rows a location has, as far as 64 bits count. By `next` alone: an iterator asks for each row too, and reads all components of its text.
 pub fn count_rows<L: Location>(l: &L) -> u64
     ensures { result ≡ row_count (L.whole l.now) }
 {

